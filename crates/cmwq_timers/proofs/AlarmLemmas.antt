@@ -1,213 +1,315 @@
--- From the leaves' ranks to alarms, and from the root's to the one that rings first.
-use Rattle.std.proofs.Common.{◌≡◌, ◌≢◌, ℕ, ◌+◌, ◌-◌, ◌*◌, ◌/◌, ◌%◌, ◌^◌, ◌<◌, ◌≤◌, Bool, true, false, cond, ◌==◌, List, length, set, replicate, Option, Some, None, is_some, arith, sym, ap, ◌∙◌, inl, inr}
-use Rattle.std.specs.Prelude.{drop, nat_le}
+-- From ticks and ranks to alarms, and from the root's rank to the alarm that rings first.
+use Rattle.std.proofs.Common.{◌≡◌, ◌≢◌, ℕ, ◌+◌, ◌-◌, ◌*◌, ◌/◌, ◌%◌, ◌^◌, ◌<◌, ◌≤◌, Bool, true, false, cond, ◌==◌, List, length, max, get_or, set, replicate, Option, Some, None, is_some, arith, refl, sym, ap, subst, ◌∙◌, inl, inr}
+use Rattle.std.specs.Prelude.{nat_le}
 use Rattle.std.proofs.lemmas.Bool.{cases_eq}
 use Rattle.std.proofs.lemmas.Bool.Decides.{nat_tests}
-use Rattle.std.proofs.lemmas.List.{ext_get_or, get_or-drop, get_or-map, get_or-replicate, get_or-set_other, get_or-set_same, length-drop, length-map, length-replicate, length-set}
-use Rattle.cmwq_types.specs.First.{by_least}
-use Rattle.cmwq_types.proofs.FirstLemmas.{by_least-order, first_below-none, first_below-unique}
+use Rattle.std.proofs.lemmas.List.{ext_get_or, get_or-replicate, get_or_read, get_or-set_other, get_or-set_same, length-replicate, length-set}
+use Rattle.std.proofs.lemmas.List.FromFn.{get_or-map-range_with_len, length-map-range_with_len}
+use Rattle.cmwq_types.specs.First.{MatchFirst, by_least}
+use Rattle.cmwq_types.proofs.FirstLemmas.{by_least-order, first_below-is_first, first_below-none, first_below-unique}
+use Rattle.cmwq_timers.specs.AlarmRanks.{IsAlarmTree, IsOwnRank, alarm_of, alarm_rank, alarms_in, last_tick, leaf_rank, no_alarm, tick_at}
 use Rattle.cmwq_timers.specs.Alarms.{alarm_at, first_to_ring, if_rings_by, ring_of, tick_or_0}
-use Rattle.cmwq_timers.specs.Tree.{HasGiven, IsAlarmTree, rank_at, tick_in, ticks_in}
-use Rattle.cmwq_timers.proofs.TreeLemmas.{IsOfLeaf, root_leaf, root_least}
+use Rattle.cmwq_timers.specs.Tree.{HasGiven, IsLeaf, IsTree, rank_at}
+use Rattle.cmwq_timers.proofs.TreeLemmas.{root_leaf, root_least}
 
--- the rank of none
-abbrev pub no_rank : ℕ
-no_rank = 2 ^ 128 - 1
+-- One alarm.
 
--- The tick in a rank.
+pub alarm_none : (tick rank : ℕ) → rank ≡ no_alarm → alarm_of tick rank ≡ None
+alarm_none tick rank is = ap (alarm_of tick) is
 
-pub tick_none : (rank : ℕ) → rank ≡ no_rank → tick_in rank ≡ None
-tick_none rank is = ap tick_in is
-
-pub tick_some : (rank : ℕ) → rank ≢ no_rank → tick_in rank ≡ Some (rank / 2 ^ 64)
-tick_some rank some =
-    let test : (rank == no_rank) ≡ false = grind (arith, nat_tests) in
-    ap (λ (b : Bool). cond b None (Some (rank / 2 ^ 64))) test
+pub alarm_some : (tick rank : ℕ) → rank ≢ no_alarm → alarm_of tick rank ≡ Some tick
+alarm_some tick rank some =
+    let test : (rank == no_alarm) ≡ false = grind (arith, nat_tests) in
+    ap (λ (b : Bool). cond b None (Some tick)) test
 
 -- where it tells none, there is none
-pub none_in : (rank : ℕ) → tick_in rank ≡ None → rank ≡ no_rank
-none_in rank is = elim (cases_eq rank no_rank) [
+none_in : (tick rank : ℕ) → alarm_of tick rank ≡ None → rank ≡ no_alarm
+none_in tick rank is = elim (cases_eq rank no_alarm) [
   | inl same ↦ same
-  | inr other ↦ absurd (let some = tick_some rank other in cc)
+  | inr other ↦ absurd (let some = alarm_some tick rank other in cc)
 ]
 
-pub some_in : (rank : ℕ) → is_some (tick_in rank) ≡ true → rank ≢ no_rank
-some_in rank some none = absurd (let is = tick_none rank none in let gone : is_some (tick_in rank) ≡ false = ap is_some is in cc)
+some_in : (tick rank : ℕ) → is_some (alarm_of tick rank) ≡ true → rank ≢ no_alarm
+some_in tick rank some none = absurd (let is = alarm_none tick rank none in let gone : is_some (alarm_of tick rank) ≡ false = ap is_some is in cc)
 
--- the rank of an alarm
-pub alarm_tick : (tick w rank : ℕ) → w < 2 ^ 16 → rank ≡ tick * 2 ^ 64 + w → tick_in rank ≡ Some tick
-alarm_tick tick w rank few is =
-    let due : rank / 2 ^ 64 ≡ tick = omega (arith, is, few) in
-    tick_some rank (λ none. absurd (omega (arith, is, few, none))) ∙ ap Some due
+-- an alarm has a lesser rank than none
+before_none : (w tick : ℕ) → w < 2 ^ 16 - 1 → alarm_rank w tick < no_alarm
+before_none w tick few = omega (arith, few)
 
--- The leaves.
+-- whether one that rings at a tick rings by another
+not_by : (tick by : ℕ) → by < tick → nat_le tick by ≡ false
+not_by tick by later = grind (arith, nat_tests)
 
-module _ (ranks : List ℕ) (even : length ranks ≡ 2 * (length ranks / 2)) where
-  pub ticks_long : length (ticks_in ranks) ≡ length ranks / 2
-  ticks_long = length-map (drop (length ranks / 2) ranks) tick_in ∙ length-drop (length ranks / 2) ranks ∙ omega (arith, even)
+is_by : (tick by : ℕ) → tick ≤ by → nat_le tick by ≡ true
+is_by tick by no_later = grind (arith, nat_tests)
 
-  pub alarm_is : (w : ℕ) → w < length ranks / 2 → alarm_at (ticks_in ranks) w ≡ tick_in (rank_at ranks (length ranks / 2 + w))
-  alarm_is w inside =
-      let long : length (drop (length ranks / 2) ranks) ≡ length ranks / 2 = length-drop (length ranks / 2) ranks ∙ omega (arith, even) in
-      get_or-map tick_in (drop (length ranks / 2) ranks) w 0 None (omega (arith, inside, long)) ∙ ap tick_in (get_or-drop (length ranks / 2) ranks w 0)
+-- The alarms.
 
--- one leaf has another rank
-module _ (was ranks : List ℕ) (w rank : ℕ) (even : length was ≡ 2 * (length was / 2)) (inside : w < length was / 2) (given : HasGiven was ranks (length was / 2 + w) rank) where
-  long : length ranks ≡ length was
-  long = given.long
+abbrev each : List ℕ → List ℕ → ℕ → Option ℕ
+each ticks ranks w = alarm_of (tick_at ticks w) (leaf_rank ranks w)
 
-  half : length ranks / 2 ≡ length was / 2
-  half = ap (λ (n : ℕ). n / 2) long
+pub alarms_long : (ticks ranks : List ℕ) → length (alarms_in ticks ranks) ≡ length ticks
+alarms_long ticks ranks = length-map-range_with_len (each ticks ranks) 0 (length ticks)
 
-  even_now : length ranks ≡ 2 * (length ranks / 2)
-  even_now = long ∙ even ∙ ap (λ (n : ℕ). 2 * n) (sym half)
+pub alarm_is : (ticks ranks : List ℕ) (w : ℕ) → w < length ticks → alarm_at (alarms_in ticks ranks) w ≡ alarm_of (tick_at ticks w) (leaf_rank ranks w)
+alarm_is ticks ranks w inside = get_or-map-range_with_len (each ticks ranks) 0 (length ticks) w w None inside (omega arith)
 
-  rank_is : (v : ℕ) → rank_at ranks (length ranks / 2 + v) ≡ rank_at ranks (length was / 2 + v)
-  rank_is v = ap (λ (n : ℕ). rank_at ranks (n + v)) half
-
-  pub ticks_with : ticks_in ranks ≡ set (ticks_in was) w (tick_in rank)
-  ticks_with =
-      ext_get_or None (ticks_in ranks) (set (ticks_in was) w (tick_in rank)) (ticks_long ranks even_now ∙ half ∙ sym (length-set (ticks_in was) w (tick_in rank) ∙ ticks_long was even)) each
-    where
-      each : (v : ℕ) → v < length (ticks_in ranks) → alarm_at (ticks_in ranks) v ≡ alarm_at (set (ticks_in was) w (tick_in rank)) v
-      each v below =
-          let many = ticks_long ranks even_now in
-          let many_was = ticks_long was even in
-          let v_inside : v < length ranks / 2 = omega (arith, below, many) in
-          elim (cases_eq v w) [
-            | inl same ↦
-                alarm_is ranks even_now v v_inside ∙ ap tick_in (rank_is v ∙ ap (λ (k : ℕ). rank_at ranks (length was / 2 + k)) same ∙ given.here)
-                ∙ sym (ap (alarm_at (set (ticks_in was) w (tick_in rank))) same ∙ get_or-set_same (ticks_in was) w (tick_in rank) None (omega (arith, inside, many_was)))
-            | inr other ↦
-                alarm_is ranks even_now v v_inside
-                ∙ ap tick_in (rank_is v ∙ given.others (length was / 2 + v) (omega (arith, even)) (λ same. absurd (other (omega (arith, same)))))
-                ∙ sym (alarm_is was even v (omega (arith, v_inside, half)))
-                ∙ sym (get_or-set_other (ticks_in was) w v (tick_in rank) None other)
-          ]
+-- as many as there are works
+pub room : (ticks ranks : List ℕ) (alarms : List (Option ℕ)) → alarms_in ticks ranks ≡ alarms → length alarms ≡ length ticks
+room ticks ranks alarms is = ap (λ (alarms : List (Option ℕ)). length alarms) (sym is) ∙ alarms_long ticks ranks
 
 -- none at the start
-pub ticks_new : (n : ℕ) (ranks : List ℕ) → ranks ≡ replicate (2 * n) no_rank → ticks_in ranks ≡ replicate n None
-ticks_new n ranks is =
-    ext_get_or None (ticks_in ranks) (replicate n None) (ticks_long ranks even ∙ half ∙ sym (length-replicate n None))
-    (λ w below.
-    let many = ticks_long ranks even in
-    let inside : w < n = omega (arith, below, many, half) in
-    alarm_is ranks even w (omega (arith, below, many))
-    ∙ tick_none (rank_at ranks (length ranks / 2 + w)) (ap (λ (rs : List ℕ). rank_at rs (length ranks / 2 + w)) is ∙ get_or-replicate (2 * n) (length ranks / 2 + w) no_rank 0 (omega (arith, half, inside)))
-    ∙ sym (get_or-replicate n w None None inside))
-  where
-    long : length ranks ≡ 2 * n
-    long = ap length is ∙ length-replicate (2 * n) no_rank
+module _ (n : ℕ) (ticks ranks : List ℕ) (few : n < 2 ^ 16) (ticks_are : ticks ≡ replicate n 0) (ranks_are : ranks ≡ replicate (2 * max n 1) no_alarm) where
+  many : length ticks ≡ n
+  many = ap length ticks_are ∙ length-replicate n 0
 
-    half : length ranks / 2 ≡ n
-    half = omega (arith, long)
+  long_new : length ranks ≡ 2 * max n 1
+  long_new = ap length ranks_are ∙ length-replicate (2 * max n 1) no_alarm
 
-    even : length ranks ≡ 2 * (length ranks / 2)
-    even = omega (arith, long)
+  each_rank : (i : ℕ) → i < length ranks → rank_at ranks i ≡ no_alarm
+  each_rank i inside = ap (λ (rs : List ℕ). rank_at rs i) ranks_are ∙ get_or-replicate (2 * max n 1) i no_alarm 0 (omega (arith, long_new, inside))
 
--- The root.
+  pub kept-new : IsAlarmTree ticks ranks
+  kept-new = record {
+    few = omega (arith, few, many);
+    long = omega (arith, long_new, many);
+    own = λ w inside some. absurd (some (each_rank (length ranks / 2 + w) (omega (arith, inside))));
+    tree = λ i above inside.
+        let here = each_rank i (omega (arith, inside)) in
+        let left = each_rank (2 * i) inside in
+        let right = each_rank (2 * i + 1) (omega (arith, inside, long_new)) in
+        omega (arith, here, left, right);
+  }
 
-module _ (ranks : List ℕ) (kept : IsAlarmTree ranks) where
-  even : length ranks ≡ 2 * (length ranks / 2)
-  even = kept.even
+  pub alarms-new : alarms_in ticks ranks ≡ replicate n None
+  alarms-new =
+      ext_get_or None (alarms_in ticks ranks) (replicate n None) (alarms_long ticks ranks ∙ many ∙ sym (length-replicate n None))
+      (λ w below.
+      let as_many = alarms_long ticks ranks in
+      let inside : w < n = omega (arith, below, as_many, many) in
+      alarm_is ticks ranks w (omega (arith, inside, many))
+      ∙ alarm_none (tick_at ticks w) (leaf_rank ranks w) (each_rank (length ranks / 2 + w) (omega (arith, inside, long_new)))
+      ∙ sym (get_or-replicate n w None None inside))
 
-  few : length ranks < 2 ^ 17
+module _ (ticks ranks : List ℕ) (kept : IsAlarmTree ticks ranks) where
+  few : length ticks < 2 ^ 16
   few = kept.few
 
-  root_before : (w : ℕ) → w < length ranks / 2 → rank_at ranks 1 ≤ rank_at ranks (length ranks / 2 + w)
-  root_before = root_least ranks even kept.tree
+  long : length ranks ≡ 2 * max (length ticks) 1
+  long = kept.long
 
-  -- whether a leaf has an alarm, and when that rings
-  passes : (k : ℕ) → k < length ranks / 2 → is_some (alarm_at (ticks_in ranks) k) ≡ true → rank_at ranks (length ranks / 2 + k) ≢ no_rank
-  passes k inside has = some_in (rank_at ranks (length ranks / 2 + k)) (sym (ap is_some (alarm_is ranks even k inside)) ∙ has)
+  even : length ranks ≡ 2 * (length ranks / 2)
+  even = omega (arith, long)
 
-  rings : (k : ℕ) → k < length ranks / 2 → rank_at ranks (length ranks / 2 + k) ≢ no_rank → alarm_at (ticks_in ranks) k ≡ Some (rank_at ranks (length ranks / 2 + k) / 2 ^ 64)
-  rings k inside some = alarm_is ranks even k inside ∙ tick_some (rank_at ranks (length ranks / 2 + k)) some
+  -- One work's alarm is set or stopped.
+  module _ (w : ℕ) (inside : w < length ticks) where
+    half : length ranks / 2 ≡ length ticks
+    half = omega (arith, long, inside)
+
+    pub leaf-is : IsLeaf ranks (length ticks + w)
+    leaf-is = record {
+      even = even;
+      above = omega (arith, long, inside);
+      inside = omega (arith, long, inside);
+    }
+
+    leaf_here : leaf_rank ranks w ≡ rank_at ranks (length ticks + w)
+    leaf_here = ap (λ (n : ℕ). rank_at ranks (n + w)) half
+
+    pub leaf-read : (len rank : ℕ) → len ≡ length ticks → rank ≡ get_or ranks (len + w) rank → rank ≡ leaf_rank ranks w
+    leaf-read len rank many read =
+        let leaf = leaf-is in
+        let below = leaf.inside in
+        get_or_read ranks (len + w) rank (omega (arith, many, below)) read 0 ∙ ap (λ (n : ℕ). rank_at ranks (n + w)) many ∙ sym leaf_here
+
+    -- where it has none, its leaf has no lesser rank than any alarm
+    pub rank-lesser : (tick : ℕ) → alarm_at (alarms_in ticks ranks) w ≡ None → alarm_rank w tick ≤ rank_at ranks (length ticks + w)
+    rank-lesser tick none =
+        let is = none_in (tick_at ticks w) (leaf_rank ranks w) (sym (alarm_is ticks ranks w inside) ∙ none) in
+        let same = leaf_here in
+        let less = before_none w tick (omega (arith, inside, few)) in
+        omega (arith, is, same, less)
+
+    module _ (new_ticks new_ranks : List ℕ) (rank : ℕ) (as_many : length new_ticks ≡ length ticks) (others : (v : ℕ) → v ≢ w → tick_at new_ticks v ≡ tick_at ticks v) (given : HasGiven ranks new_ranks (length ticks + w) rank) where
+      as_long : length new_ranks ≡ length ranks
+      as_long = given.long
+
+      half_now : length new_ranks / 2 ≡ length ticks
+      half_now = omega (arith, as_long, half)
+
+      rank_here : leaf_rank new_ranks w ≡ rank
+      rank_here = ap (λ (n : ℕ). rank_at new_ranks (n + w)) half_now ∙ given.here
+
+      rank_other : (v : ℕ) → v ≢ w → leaf_rank new_ranks v ≡ leaf_rank ranks v
+      rank_other v apart =
+          ap (λ (n : ℕ). rank_at new_ranks (n + v)) half_now
+          ∙ given.others (length ticks + v) (omega (arith, long, inside)) (λ same. absurd (apart (omega (arith, same))))
+          ∙ ap (λ (n : ℕ). rank_at ranks (n + v)) (sym half)
+
+      pub kept-with : IsTree new_ranks → IsOwnRank new_ticks w rank → IsAlarmTree new_ticks new_ranks
+      kept-with tree own = record {
+        few = omega (arith, few, as_many);
+        long = omega (arith, long, as_long, as_many);
+        own = λ v v_inside. elim (cases_eq v w) [
+          | inl same ↦ subst (λ (k : ℕ). IsOwnRank new_ticks k (leaf_rank new_ranks k)) (sym same) (subst (IsOwnRank new_ticks w) (sym rank_here) own)
+          | inr other ↦
+              let is = rank_other v other in
+              λ some.
+              let was = kept.own v (omega (arith, v_inside, half_now, half)) (λ none. some (is ∙ none)) in
+              (omega (arith, was.0, as_many), is ∙ was.1 ∙ ap (alarm_rank v) (sym (others v other)))
+        ];
+        tree = tree;
+      }
+
+      pub alarms-with : alarms_in new_ticks new_ranks ≡ set (alarms_in ticks ranks) w (alarm_of (tick_at new_ticks w) rank)
+      alarms-with =
+          ext_get_or None (alarms_in new_ticks new_ranks) (set (alarms_in ticks ranks) w alarm) (alarms_long new_ticks new_ranks ∙ as_many ∙ sym (length-set (alarms_in ticks ranks) w alarm ∙ alarms_long ticks ranks)) by_work
+        where
+          alarm : Option ℕ
+          alarm = alarm_of (tick_at new_ticks w) rank
+
+          by_work : (v : ℕ) → v < length (alarms_in new_ticks new_ranks) → alarm_at (alarms_in new_ticks new_ranks) v ≡ alarm_at (set (alarms_in ticks ranks) w alarm) v
+          by_work v below =
+              let many_now = alarms_long new_ticks new_ranks in
+              let many = alarms_long ticks ranks in
+              let here = alarm_is new_ticks new_ranks v (omega (arith, below, many_now)) in
+              elim (cases_eq v w) [
+                | inl same ↦
+                    here ∙ ap (λ (k : ℕ). alarm_of (tick_at new_ticks k) (leaf_rank new_ranks k)) same ∙ ap (alarm_of (tick_at new_ticks w)) rank_here
+                    ∙ sym (ap (alarm_at (set (alarms_in ticks ranks) w alarm)) same ∙ get_or-set_same (alarms_in ticks ranks) w alarm None (omega (arith, inside, many)))
+                | inr other ↦
+                    here ∙ ap (λ (tick : ℕ). alarm_of tick (leaf_rank new_ranks v)) (others v other) ∙ ap (alarm_of (tick_at ticks v)) (rank_other v other)
+                    ∙ sym (alarm_is ticks ranks v (omega (arith, below, many_now, as_many)))
+                    ∙ sym (get_or-set_other (alarms_in ticks ranks) w v alarm None other)
+              ]
+
+    -- set to a tick
+    module _ (tick : ℕ) (new_ranks : List ℕ) (given : HasGiven ranks new_ranks (length ticks + w) (alarm_rank w tick)) where
+      tick_here : tick_at (set ticks w tick) w ≡ tick
+      tick_here = get_or-set_same ticks w tick 0 inside
+
+      pub kept-set : IsTree new_ranks → IsAlarmTree (set ticks w tick) new_ranks
+      kept-set tree =
+          let many = length-set ticks w tick in
+          kept-with (set ticks w tick) new_ranks (alarm_rank w tick) many (λ v other. get_or-set_other ticks w v tick 0 other) given tree
+          (λ some. (omega (arith, inside, many), ap (alarm_rank w) (sym tick_here)))
+
+      pub alarms-set : alarms_in (set ticks w tick) new_ranks ≡ set (alarms_in ticks ranks) w (Some tick)
+      alarms-set =
+          let less = before_none w tick (omega (arith, inside, few)) in
+          alarms-with (set ticks w tick) new_ranks (alarm_rank w tick) (length-set ticks w tick) (λ v other. get_or-set_other ticks w v tick 0 other) given
+          ∙ ap (set (alarms_in ticks ranks) w) (alarm_some (tick_at (set ticks w tick) w) (alarm_rank w tick) (λ none. absurd (omega (arith, less, none))) ∙ ap Some tick_here)
+
+    -- stopped
+    module _ (new_ranks : List ℕ) (given : HasGiven ranks new_ranks (length ticks + w) no_alarm) where
+      pub kept-stopped : IsTree new_ranks → IsAlarmTree ticks new_ranks
+      kept-stopped tree = kept-with ticks new_ranks no_alarm refl (λ v other. refl) given tree (λ some. absurd (some refl))
+
+      pub alarms-stopped : alarms_in ticks new_ranks ≡ set (alarms_in ticks ranks) w None
+      alarms-stopped = alarms-with ticks new_ranks no_alarm refl (λ v other. refl) given ∙ ap (set (alarms_in ticks ranks) w) (alarm_none (tick_at ticks w) no_alarm refl)
+
+  -- The root.
+
+  root_before : (w : ℕ) → w < length ticks → rank_at ranks 1 ≤ leaf_rank ranks w
+  root_before w inside = root_least ranks even kept.tree w (omega (arith, long, inside))
+
+  -- a work that has an alarm
+  record HasAlarm (w : ℕ) : Type 0 where
+    is : alarm_at (alarms_in ticks ranks) w ≡ Some (tick_at ticks w)
+    later : rank_at ranks 1 ≤ alarm_rank w (tick_at ticks w)
+
+  has_alarm : (w : ℕ) → w < length ticks → is_some (alarm_at (alarms_in ticks ranks) w) ≡ true → HasAlarm w
+  has_alarm w inside has =
+      let here = alarm_is ticks ranks w inside in
+      let some = some_in (tick_at ticks w) (leaf_rank ranks w) (sym (ap is_some here) ∙ has) in
+      let own = kept.own w (omega (arith, long, inside)) some in
+      record { is = here ∙ alarm_some (tick_at ticks w) (leaf_rank ranks w) some; later = subst (λ (rank : ℕ). rank_at ranks 1 ≤ rank) own.1 (root_before w inside) }
+
+  abbrev rings_before : ℕ → ℕ → Bool
+  rings_before = by_least (λ w. tick_or_0 (alarm_at (alarms_in ticks ranks) w))
+
+  -- none rings before the tick that stands in the root's rank
+  pub none-by : (tick : ℕ) → tick < rank_at ranks 1 / 2 ^ 16 → if_rings_by (alarms_in ticks ranks) tick (first_to_ring (alarms_in ticks ranks)) ≡ None
+  none-by tick before =
+      by_first (first_to_ring (alarms_in ticks ranks)) (first_below-is_first rings_before (λ w. is_some (alarm_at (alarms_in ticks ranks) w)) (length (alarms_in ticks ranks))
+      (by_least-order (λ w. tick_or_0 (alarm_at (alarms_in ticks ranks) w))))
+    where
+      by_first : (o : Option ℕ) → MatchFirst rings_before (λ w. is_some (alarm_at (alarms_in ticks ranks) w)) (length (alarms_in ticks ranks)) o → if_rings_by (alarms_in ticks ranks) tick o ≡ None
+      by_first None none = refl
+      by_first (Some w) first =
+          let many = alarms_long ticks ranks in
+          let below = first.in_range in
+          let inside : w < length ticks = omega (arith, below, many) in
+          let has = has_alarm w inside first.passes in
+          let later = has.later in
+          let no_sooner : tick < tick_at ticks w = omega (arith, before, later, inside, few) in
+          ap (λ (o : Option ℕ). cond (nat_le (tick_or_0 o) tick) (Some w) None) has.is ∙ ap (λ (b : Bool). cond b (Some w) None) (not_by (tick_at ticks w) tick no_sooner)
 
   -- where the root has the rank of none, none has an alarm
-  pub none-first : rank_at ranks 1 ≡ no_rank → first_to_ring (ticks_in ranks) ≡ None
+  pub none-first : rank_at ranks 1 ≡ no_alarm → first_to_ring (alarms_in ticks ranks) ≡ None
   none-first none =
-      first_below-none (by_least (λ w. tick_or_0 (alarm_at (ticks_in ranks) w))) (λ w. is_some (alarm_at (ticks_in ranks) w)) (length (ticks_in ranks)) (by_least-order (λ w. tick_or_0 (alarm_at (ticks_in ranks) w)))
-      (λ k below.
-      let many = ticks_long ranks even in
-      let inside : k < length ranks / 2 = omega (arith, below, many) in
-      ap is_some (alarm_is ranks even k inside ∙ silent k inside))
+      first_below-none rings_before (λ w. is_some (alarm_at (alarms_in ticks ranks) w)) (length (alarms_in ticks ranks)) (by_least-order (λ w. tick_or_0 (alarm_at (alarms_in ticks ranks) w)))
+      (λ w below.
+      let many = alarms_long ticks ranks in
+      let inside : w < length ticks = omega (arith, below, many) in
+      silent w inside (is_some (alarm_at (alarms_in ticks ranks) w)) refl)
     where
-      silent : (k : ℕ) → k < length ranks / 2 → tick_in (rank_at ranks (length ranks / 2 + k)) ≡ None
-      silent k inside = elim (cases_eq (rank_at ranks (length ranks / 2 + k)) no_rank) [
-        | inl same ↦ tick_none (rank_at ranks (length ranks / 2 + k)) same
-        | inr other ↦
-            let own = kept.own k inside other in
-            let least = root_before k inside in
-            absurd (omega (arith, none, own.1, least, other))
-      ]
+      silent : (w : ℕ) → w < length ticks → (b : Bool) → is_some (alarm_at (alarms_in ticks ranks) w) ≡ b → is_some (alarm_at (alarms_in ticks ranks) w) ≡ false
+      silent w inside false e = e
+      silent w inside true e =
+          let has = has_alarm w inside e in
+          let later = has.later in
+          let less = before_none w (tick_at ticks w) (omega (arith, inside, few)) in
+          absurd (omega (arith, none, later, less))
 
-  -- where it has another, the work in that has the first
-  module _ (some : rank_at ranks 1 ≢ no_rank) (some_room : 0 < length ranks / 2) where
-    root : IsOfLeaf ranks 1
-    root = root_leaf ranks even kept.tree some_room
+  -- Where the tick stands whole in the root's rank, the work in that has the first.
+  pub record HasRoot : Type 0 where
+    pub first : first_to_ring (alarms_in ticks ranks) ≡ Some (rank_at ranks 1 % 2 ^ 16)
+    pub rings : alarm_at (alarms_in ticks ranks) (rank_at ranks 1 % 2 ^ 16) ≡ Some (rank_at ranks 1 / 2 ^ 16)
+    pub inside : rank_at ranks 1 % 2 ^ 16 < length (alarms_in ticks ranks)
 
-    root_some : rank_at ranks (length ranks / 2 + root.leaf) ≢ no_rank
-    root_some none = some (root.is ∙ none)
+  pub has-root : rank_at ranks 1 / 2 ^ 16 < last_tick → HasRoot
+  has-root whole =
+      let root = root_leaf ranks even kept.tree (omega (arith, long)) in
+      let root_is = root.is in
+      let some : leaf_rank ranks root.leaf ≢ no_alarm = λ none. absurd (omega (arith, root_is, none, whole)) in
+      let own = kept.own root.leaf root.inside some in
+      of_work root.leaf own.0 some (root_is ∙ own.1)
+    where
+      of_work : (w : ℕ) → w < length ticks → leaf_rank ranks w ≢ no_alarm → rank_at ranks 1 ≡ alarm_rank w (tick_at ticks w) → HasRoot
+      of_work w inside some is =
+          let number : w ≡ rank_at ranks 1 % 2 ^ 16 = omega (arith, inside, few, is) in
+          let tick : tick_at ticks w ≡ rank_at ranks 1 / 2 ^ 16 = omega (arith, inside, few, is, whole) in
+          let many = alarms_long ticks ranks in
+          let has : alarm_at (alarms_in ticks ranks) w ≡ Some (tick_at ticks w) = alarm_is ticks ranks w inside ∙ alarm_some (tick_at ticks w) (leaf_rank ranks w) some in
+          record {
+            first =
+                first_below-unique rings_before (λ v. is_some (alarm_at (alarms_in ticks ranks) v)) (length (alarms_in ticks ranks)) w (by_least-order (λ v. tick_or_0 (alarm_at (alarms_in ticks ranks) v)))
+                (omega (arith, inside, many)) (ap is_some has)
+                (λ k lower passes.
+                let other = has_alarm k (omega (arith, lower, inside)) passes in
+                let later = other.later in
+                let sooner : tick_at ticks w < tick_at ticks k = omega (arith, lower, inside, few, is, later, whole) in
+                rw (has, other.is) (grind (arith, nat_tests)))
+                (λ k below passes.
+                let k_inside : k < length ticks = omega (arith, below, many) in
+                let other = has_alarm k k_inside passes in
+                let later = other.later in
+                let no_later : tick_at ticks w ≤ tick_at ticks k = omega (arith, k_inside, inside, few, is, later, whole) in
+                rw (has, other.is) (grind (arith, nat_tests)))
+                ∙ ap Some number;
+            rings = ap (alarm_at (alarms_in ticks ranks)) (sym number) ∙ has ∙ ap Some tick;
+            inside = omega (arith, number, inside, many);
+          }
 
-    low : rank_at ranks 1 % 2 ^ 64 ≡ root.leaf
-    low = ap (λ (rank : ℕ). rank % 2 ^ 64) root.is ∙ (kept.own root.leaf root.inside root_some).0
+  pub rings-by : (tick : ℕ) → HasRoot → rank_at ranks 1 / 2 ^ 16 ≤ tick → Some (rank_at ranks 1 % 2 ^ 16) ≡ if_rings_by (alarms_in ticks ranks) tick (first_to_ring (alarms_in ticks ranks))
+  rings-by tick root by_then =
+      let work = rank_at ranks 1 % 2 ^ 16 in
+      sym (
+      ap (if_rings_by (alarms_in ticks ranks) tick) root.first
+      ∙ ap (λ (o : Option ℕ). cond (nat_le (tick_or_0 o) tick) (Some work) None) root.rings
+      ∙ ap (λ (b : Bool). cond b (Some work) None) (is_by (rank_at ranks 1 / 2 ^ 16) tick by_then)
+      )
 
-    -- its number
-    first-work : rank_at ranks 1 % 2 ^ 16 ≡ root.leaf
-    first-work =
-        let is = low in
-        let inside = root.inside in
-        omega (arith, is, inside, few, even)
-
-    pub first-inside : rank_at ranks 1 % 2 ^ 16 < length (ticks_in ranks)
-    first-inside =
-        let is = first-work in
-        let inside = root.inside in
-        let many = ticks_long ranks even in
-        omega (arith, is, inside, many)
-
-    first-rings : alarm_at (ticks_in ranks) root.leaf ≡ Some (rank_at ranks 1 / 2 ^ 64)
-    first-rings = rings root.leaf root.inside root_some ∙ ap (λ (rank : ℕ). Some (rank / 2 ^ 64)) (sym root.is)
-
-    first-is : first_to_ring (ticks_in ranks) ≡ Some root.leaf
-    first-is =
-        let many = ticks_long ranks even in
-        let root_inside = root.inside in
-        first_below-unique (by_least (λ w. tick_or_0 (alarm_at (ticks_in ranks) w))) (λ w. is_some (alarm_at (ticks_in ranks) w)) (length (ticks_in ranks)) root.leaf (by_least-order (λ w. tick_or_0 (alarm_at (ticks_in ranks) w)))
-        (omega (arith, root_inside, many)) (ap is_some first-rings)
-        (λ k lower has.
-        let inside : k < length ranks / 2 = omega (arith, lower, root_inside) in
-        let other = passes k inside has in
-        let least = root_before k inside in
-        let own = kept.own k inside other in
-        let is = low in
-        let sooner : rank_at ranks 1 / 2 ^ 64 < rank_at ranks (length ranks / 2 + k) / 2 ^ 64 = omega (arith, lower, is, own.0, least) in
-        rw (first-rings, rings k inside other) (grind (arith, nat_tests)))
-        (λ k below has.
-        let inside : k < length ranks / 2 = omega (arith, below, many) in
-        let other = passes k inside has in
-        let least = root_before k inside in
-        let no_later : rank_at ranks 1 / 2 ^ 64 ≤ rank_at ranks (length ranks / 2 + k) / 2 ^ 64 = omega (arith, least) in
-        rw (first-rings, rings k inside other) (grind (arith, nat_tests)))
-
-    -- whether it rings by a tick
-    pub rings-later : (tick : ℕ) → tick < rank_at ranks 1 / 2 ^ 64 → if_rings_by (ticks_in ranks) tick (first_to_ring (ticks_in ranks)) ≡ None
-    rings-later tick later =
-        let test : nat_le (rank_at ranks 1 / 2 ^ 64) tick ≡ false = grind (arith, nat_tests) in
-        ap (if_rings_by (ticks_in ranks) tick) first-is
-        ∙ ap (λ (o : Option ℕ). cond (nat_le (tick_or_0 o) tick) (Some root.leaf) None) first-rings
-        ∙ ap (λ (b : Bool). cond b (Some root.leaf) None) test
-
-    pub rings-by : (tick : ℕ) → rank_at ranks 1 / 2 ^ 64 ≤ tick → Some (rank_at ranks 1 % 2 ^ 16) ≡ if_rings_by (ticks_in ranks) tick (first_to_ring (ticks_in ranks))
-    rings-by tick by_then =
-        let test : nat_le (rank_at ranks 1 / 2 ^ 64) tick ≡ true = grind (arith, nat_tests) in
-        ap Some first-work
-        ∙ sym (
-        ap (if_rings_by (ticks_in ranks) tick) first-is
-        ∙ ap (λ (o : Option ℕ). cond (nat_le (tick_or_0 o) tick) (Some root.leaf) None) first-rings
-        ∙ ap (λ (b : Bool). cond b (Some root.leaf) None) test
-        )
-
-    pub next-is : Some (rank_at ranks 1 / 2 ^ 64) ≡ ring_of (ticks_in ranks) (first_to_ring (ticks_in ranks))
-    next-is = sym (ap (ring_of (ticks_in ranks)) first-is ∙ first-rings)
+  pub next-is : HasRoot → Some (rank_at ranks 1 / 2 ^ 16) ≡ ring_of (alarms_in ticks ranks) (first_to_ring (alarms_in ticks ranks))
+  next-is root = sym (ap (ring_of (alarms_in ticks ranks)) root.first ∙ root.rings)

@@ -1,3 +1,4 @@
+pub mod AlarmRanks
 pub mod Alarms
 pub mod Timers
 pub mod Tree

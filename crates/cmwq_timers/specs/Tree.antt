@@ -1,5 +1,5 @@
 -- How timers are ranked, and the tree of their ranks. No public clause cites this module.
-use Rattle.std.specs.Prelude.{◌≡◌, ◌≢◌, ℕ, ◌+◌, ◌-◌, ◌*◌, ◌/◌, ◌%◌, ◌^◌, ◌<◌, ◌≤◌, ◌==◌, List, drop, length, map, Option, Some, None, IfSome, if◌then◌else◌, min, slice_index_or}
+use Rattle.std.specs.Prelude.{◌≡◌, ◌≢◌, ℕ, ◌+◌, ◌-◌, ◌*◌, ◌/◌, ◌^◌, ◌<◌, ◌≤◌, List, length, Option, Some, None, IfSome, min, slice_index_or}
 use Rattle.cmwq_timers.specs.declared.timer.Timer.{Timer}
 use Rattle.cmwq_timers.specs.Timers.{timer_at}
 
@@ -53,24 +53,4 @@ pub record IsKept (timers : List (Option Timer)) (ranks : List ℕ) : Type 0 whe
   pub long : length ranks ≡ 2 * length timers
   pub own : (w : ℕ) → w < length timers → IfSome (timer_at timers w) (IsOwn w)
   pub leaves : (w : ℕ) → w < length timers → rank_at ranks (length timers + w) ≡ rank_of (timer_at timers w)
-  pub tree : IsTree ranks
-
--- Alarms: the leaves are all that there is.
-
--- the tick in a leaf's rank
-abbrev pub tick_in : ℕ → Option ℕ
-tick_in rank = if rank == 2 ^ 128 - 1 then None else Some (rank / 2 ^ 64)
-
-abbrev pub ticks_in : List ℕ → List (Option ℕ)
-ticks_in ranks = map tick_in (drop (length ranks / 2) ranks)
-
--- the rank is that of an alarm of this work, or of none
-abbrev pub IsOwnRank : ℕ → ℕ → Type 0
-IsOwnRank w rank = rank ≢ 2 ^ 128 - 1 → (rank % 2 ^ 64 ≡ w) × (rank < 2 ^ 128)
-
--- the leaf of each work has its own rank, and above the leaves is the tree
-pub record IsAlarmTree (ranks : List ℕ) : Type 0 where
-  pub few : length ranks < 2 ^ 17
-  pub even : length ranks ≡ 2 * (length ranks / 2)
-  pub own : (w : ℕ) → w < length ranks / 2 → IsOwnRank w (rank_at ranks (length ranks / 2 + w))
   pub tree : IsTree ranks

@@ -1,20 +1,23 @@
 //! The alarms.
 ghost use Rattle.cmwq_timers.specs.Alarms.{alarm_at, first_to_ring, if_rings_by, ring_of};
-ghost use Rattle.std.specs.Prelude.{◌≡◌, ◌<◌, ◌+◌, ◌*◌, ◌^◌, IfOk, IfSome, None, Some, length, option_map, replicate, slice_set};
+ghost use Rattle.std.specs.Prelude.{◌≡◌, ◌<◌, ◌^◌, IfOk, IfSome, None, Some, length, option_map, replicate, slice_set};
 
-use crate::rank::{due_in, work_in};
-use crate::tree::{lower, raise};
+use crate::alarm_ranks::{LAST_TICK, NO_ALARM, alarm_rank, tick_in, work_of};
+use crate::alarm_scan::{first_due_scanned, next_due_scanned};
+use crate::alarm_tree::{lower_alarm, raise_alarm};
 use cmwq_types::{NoMemory, WorkId, filled};
 use std::alloc::Global;
 use std::marker::Model;
 
 /// When an alarm of each of some works rings, if it has one, the works numbered from 0.
 ///
-/// An alarm is a timer of which nothing else is known than its tick, so the tree of ranks is all that is kept: in a work's leaf stand the tick, in
-/// 64 bits, and the work, in 64, or all ones. All room is taken by `new` and `copy`.
+/// Above the alarms stands a tree of their ranks, as above timers, but ranks have 64 bits: the tick, in 48, and the work, in 16, or all ones. So a
+/// step up is half as long. From tick 2^48 - 1 on all have one rank: so ticks are kept whole beside the tree, and are looked at only where the root
+/// has that rank. What is kept for a work without an alarm tells nothing. All room is taken by `new` and `copy`.
 #[derive(Drop)]
 pub struct Alarms {
-    ranks: Vec<u128>,
+    ticks: Vec<u64>,
+    ranks: Vec<u64>,
 }
 
 impl Model for Alarms {
@@ -22,11 +25,11 @@ impl Model for Alarms {
 
     ghost Value = { List (Option ℕ) };
 
-    ghost use Rattle.cmwq_timers.specs.Tree.{IsAlarmTree, ticks_in};
+    ghost use Rattle.cmwq_timers.specs.AlarmRanks.{IsAlarmTree, alarms_in};
 
-    ghost view = { λ a. ticks_in a.ranks.items };
+    ghost view = { λ a. alarms_in a.ticks.items a.ranks.items };
 
-    ghost invariant = { λ a. IsAlarmTree a.ranks.items };
+    ghost invariant = { λ a. IsAlarmTree a.ticks.items a.ranks.items };
 }
 
 impl Alarms {
@@ -34,17 +37,20 @@ impl Alarms {
     pub fn new(alloc: Global, capacity: u16) -> Result<Alarms, NoMemory>
         ensures empty { IfOk result (λ made. made ≡ replicate capacity None) }
     {
-        let ranks = filled(alloc, u128::MAX, 2 * usize::from(capacity))?;
-        Ok(Alarms { ranks })
+        let works = usize::from(capacity);
+        let ticks = filled(alloc, 0, works)?;
+        let ranks = filled(alloc, NO_ALARM, 2 * works.max(1))?;
+        Ok(Alarms { ticks, ranks })
     }
 
     /// Alarms equal to these, with the same room. The only error is want of memory.
     pub fn copy(&self) -> Result<Alarms, NoMemory>
         ensures { IfOk result (λ copy. copy ≡ self.now) }
     {
-        let alloc = *self.ranks.allocator();
+        let alloc = *self.ticks.allocator();
+        let ticks = Vec::from_slice(alloc, &self.ticks)?;
         let ranks = Vec::from_slice(alloc, &self.ranks)?;
-        Ok(Alarms { ranks })
+        Ok(Alarms { ticks, ranks })
     }
 
     /// Sets the alarm of a work that has none to this tick.
@@ -54,9 +60,10 @@ impl Alarms {
         requires absent { alarm_at self.old work.0 ≡ None }
         ensures set { self.new ≡ slice_set self.old work.0 (Some tick) }
     {
-        let Alarms { ranks } = self;
-        let leaf = ranks.len() / 2 + usize::from(work.0);
-        lower(ranks, leaf, alarm_rank(work, tick));
+        let Alarms { ticks, ranks } = self;
+        let at = usize::from(work.0);
+        ticks[at] = tick;
+        lower_alarm(ranks, ticks.len() + at, alarm_rank(work, tick));
     }
 
     /// Takes a work's alarm away, if it has one.
@@ -65,9 +72,8 @@ impl Alarms {
         requires room { work.0 < length self.old }
         ensures { self.new ≡ slice_set self.old work.0 None }
     {
-        let Alarms { ranks } = self;
-        let leaf = ranks.len() / 2 + usize::from(work.0);
-        raise(ranks, leaf);
+        let Alarms { ticks, ranks } = self;
+        raise_alarm(ranks, ticks.len() + usize::from(work.0));
     }
 
     /// The work whose alarm rings first, the one of least number where several do, if it rings by this tick. It's quick where none does.
@@ -76,14 +82,14 @@ impl Alarms {
         ensures first { option_map (λ work. work.0) result ≡ if_rings_by self.now tick (first_to_ring self.now) }
         ensures in_range { IfSome result (λ work. work.0 < length self.now) }
     {
-        let rank = *self.ranks.get(1)?;
-        if due_in(rank) > tick {
+        let rank = self.ranks[1];
+        if tick_in(rank) > tick {
             return None;
         }
-        if rank == u128::MAX {
-            return None;
+        if tick_in(rank) >= LAST_TICK {
+            return first_due_scanned(self, tick);
         }
-        Some(work_in(rank))
+        Some(work_of(rank))
     }
 
     /// When the first alarm rings, if there is one.
@@ -91,18 +97,32 @@ impl Alarms {
     pub fn next_due(&self) -> Option<u64>
         ensures { result ≡ ring_of self.now (first_to_ring self.now) }
     {
-        let rank = *self.ranks.get(1)?;
-        if rank == u128::MAX {
+        let rank = self.ranks[1];
+        if tick_in(rank) < LAST_TICK {
+            return Some(tick_in(rank));
+        }
+        if rank == NO_ALARM {
             return None;
         }
-        Some(due_in(rank))
+        next_due_scanned(self)
     }
-}
 
-/// Where a work's alarm stands among the others.
-#[inline(always)]
-fn alarm_rank(work: WorkId, tick: u64) -> u128
-    ensures { result ≡ tick * 2 ^ 64 + work.0 }
-{
-    u128::from(tick) * (1 << 64) + u128::from(work.0)
+    /// When a work's alarm rings, if it has one.
+    pub(crate) fn get(&self, w: usize) -> Option<u64>
+        requires work { w < length self.now }
+        ensures { result ≡ alarm_at self.now w }
+    {
+        if self.ranks[self.ticks.len() + w] == NO_ALARM {
+            return None;
+        }
+        Some(self.ticks[w])
+    }
+
+    /// For how many works there is room.
+    pub(crate) fn len(&self) -> usize
+        ensures works { result ≡ length self.now }
+        ensures few { result < 2 ^ 16 }
+    {
+        self.ticks.len()
+    }
 }

@@ -1,6 +1,9 @@
 //! The timers of delayed works, in the order in which they fire, and alarms, which are timers of which only the tick is known.
 #![tactic(auto)]
 
+mod alarm_ranks;
+mod alarm_scan;
+mod alarm_tree;
 mod alarms;
 mod changing;
 mod rank;

@@ -1,7 +1,11 @@
-use Rattle.std.proofs.Common.{◌*◌, ap, ◌∙◌}
-use Rattle.cmwq_timers.proofs.AlarmLemmas.{no_rank, ticks_new}
-use Rattle.std.proofs.Common.{ℕ, replicate}
+use Rattle.std.proofs.Common.{ℕ, ◌*◌, max, replicate, arith, ap, ◌∙◌}
+use Rattle.cmwq_timers.specs.AlarmRanks.{no_alarm}
+use Rattle.cmwq_timers.proofs.AlarmLemmas.{alarms-new}
 use Rattle.cmwq_timers.proofs.alarms.Alarms.new.Goals as goal
 
 pub returns : goal.returns
-returns c = record { empty = ticks_new c.args.capacity c.in_ok-ranks.ranks.items (c.in_ok-ranks.ensures ∙ ap (λ (n : ℕ). replicate (2 * n) no_rank) c.from.ensures) }
+returns c = record {
+  empty =
+      alarms-new c.args.capacity c.in_ok-ticks.ticks.items c.in_ok-ranks.ranks.items (omega arith) (c.in_ok-ticks.ensures ∙ ap (λ (n : ℕ). replicate n 0) c.from-works.ensures)
+      (c.in_ok-ranks.ensures ∙ ap (λ (n : ℕ). replicate (2 * n) no_alarm) (c.max.ensures ∙ ap (λ (n : ℕ). max n 1) c.from-works.ensures));
+}

@@ -1,0 +1,48 @@
+//! The tree of the alarms' ranks. Those of two works differ, so a node has a leaf's rank only where it stands above that leaf.
+ghost use Rattle.cmwq_timers.specs.AlarmRanks.{no_alarm};
+ghost use Rattle.cmwq_timers.specs.Tree.{HasGiven, IsLeaf, IsTree, rank_at};
+ghost use Rattle.std.specs.Prelude.{◌≡◌, ◌≤◌};
+
+use crate::alarm_ranks::NO_ALARM;
+
+/// Gives a leaf a lesser rank, and so each node above that had none so low.
+#[inline(always)]
+pub(crate) fn lower_alarm(ranks: &mut [u64], leaf: usize, rank: u64)
+    requires tree { IsTree ranks.old }
+    requires leaf { IsLeaf ranks.old leaf }
+    requires lesser { rank ≤ rank_at ranks.old leaf }
+    ensures tree { IsTree ranks.new }
+    ensures given { HasGiven ranks.old ranks.new leaf rank }
+{
+    ranks[leaf] = rank;
+    let mut at = leaf / 2;
+    while at > 0 {
+        if ranks[at] <= rank {
+            return;
+        }
+        ranks[at] = rank;
+        at /= 2;
+    }
+}
+
+/// Gives a leaf the rank of no alarm, and each node above that had the leaf's the lesser of the two below it.
+///
+/// Which of two ranks is the lesser can't be foretold, so it is found without a jump, and both are read on each step.
+#[inline(always)]
+pub(crate) fn raise_alarm(ranks: &mut [u64], leaf: usize)
+    requires tree { IsTree ranks.old }
+    requires leaf { IsLeaf ranks.old leaf }
+    ensures tree { IsTree ranks.new }
+    ensures given { HasGiven ranks.old ranks.new leaf no_alarm }
+{
+    let was = ranks[leaf];
+    ranks[leaf] = NO_ALARM;
+    let mut at = leaf / 2;
+    while at > 0 {
+        if ranks[at] != was {
+            return;
+        }
+        ranks[at] = ranks[2 * at].min(ranks[2 * at + 1]);
+        at /= 2;
+    }
+}
