@@ -268,7 +268,7 @@ module _ (ticks ranks : List ℕ) (kept : IsAlarmTree ticks ranks) where
     pub rings : alarm_at (alarms_in ticks ranks) (rank_at ranks 1 % 2 ^ 16) ≡ Some (rank_at ranks 1 / 2 ^ 16)
     pub inside : rank_at ranks 1 % 2 ^ 16 < length (alarms_in ticks ranks)
 
-  pub has-root : rank_at ranks 1 / 2 ^ 16 < last_tick → HasRoot
+  pub has-root : rank_at ranks 1 < last_tick * 2 ^ 16 → HasRoot
   has-root whole =
       let root = root_leaf ranks even kept.tree (omega (arith, long)) in
       let root_is = root.is in

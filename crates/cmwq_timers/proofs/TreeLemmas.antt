@@ -2,11 +2,7 @@
 use Rattle.std.proofs.Common.{◌≡◌, ◌≢◌, ◌⊎◌, ℕ, suc, zero, ◌+◌, ◌-◌, ◌*◌, ◌/◌, ◌<◌, ◌≤◌, List, length, min, set, arith, refl, sym, ap, subst, ◌∙◌, inl, inr}
 use Rattle.std.proofs.lemmas.Bool.{cases_eq, cases_lt}
 use Rattle.std.proofs.lemmas.List.{get_or-set_same, get_or-set_other, length-set}
-use Rattle.cmwq_timers.specs.Tree.{IsTree, IsTreeBut, HasGiven, HasLesser, IsLeaf, rank_at}
-
--- the node that stands beside one
-abbrev pub beside : ℕ → ℕ
-beside node = 4 * (node / 2) + 1 - node
+use Rattle.cmwq_timers.specs.Tree.{IsTree, IsTreeBut, HasGiven, HasLesser, IsLeaf, beside, rank_at}
 
 -- a node and the one beside it are the two below the one above
 pub pair : (ranks : List ℕ) (node : ℕ) → min (rank_at ranks (2 * (node / 2))) (rank_at ranks (2 * (node / 2) + 1)) ≡ min (rank_at ranks node) (rank_at ranks (beside node))
@@ -214,6 +210,15 @@ raising-goes-up was ranks leaf low most at raising high =
 
 pub raising-ends : (was ranks : List ℕ) (leaf low most at : ℕ) → IsRaising was ranks leaf low most at → (0 < at → rank_at ranks at ≢ low) → IsTree ranks
 raising-ends was ranks leaf low most at raising apart = ends was ranks leaf most at raising.way (λ above. elim (raising.had above) [ inl lesser ↦ lesser | inr had ↦ absurd (apart above had.0) ])
+
+-- the rank is the lesser of the two below the node
+abbrev pub IsLesser : List ℕ → ℕ → ℕ → Type 0
+IsLesser ranks at lesser = 0 < at → lesser ≡ min (rank_at ranks (2 * at)) (rank_at ranks (2 * at + 1))
+
+-- above a node that has another rank it's the lesser of that and of the one beside it
+pub lesser-above : (ranks : List ℕ) (node rank : ℕ) → node < length ranks → IsLesser (set ranks node rank) (node / 2) (min rank (rank_at (set ranks node rank) (beside node)))
+lesser-above ranks node rank inside above =
+    sym (pair (set ranks node rank) node ∙ ap (λ (r : ℕ). min r (rank_at (set ranks node rank) (beside node))) (here ranks node rank inside))
 
 -- The root.
 

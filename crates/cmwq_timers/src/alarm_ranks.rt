@@ -5,10 +5,13 @@ ghost use Rattle.std.specs.Prelude.{◌≡◌, ◌/◌, ◌%◌, ◌^◌};
 use cmwq_types::WorkId;
 
 /// From this tick on all have one rank.
-pub(crate) const LAST_TICK: u64 = (1 << 48) - 1;
+const LAST_TICK: u64 = (1 << 48) - 1;
 
 /// The rank of a work without an alarm: all ones, and no alarm has that, since no work has the number of all ones.
 pub(crate) const NO_ALARM: u64 = u64::MAX;
+
+/// From this rank on the tick doesn't stand whole in a rank.
+pub(crate) const FIRST_LATE: u64 = LAST_TICK * (1 << 16);
 
 /// Where a work's alarm stands among the others: the alarm of least rank rings first. In a rank stand the tick, in 48 bits, and the work, in 16.
 #[inline(always)]
@@ -18,7 +21,7 @@ pub(crate) fn alarm_rank(work: WorkId, tick: u64) -> u64
     tick.min(LAST_TICK) * (1 << 16) + u64::from(work.0)
 }
 
-/// When the alarm of this rank rings, if it's before the last tick.
+/// When the alarm of this rank rings, or the last tick, if it rings from there on.
 #[inline(always)]
 pub(crate) fn tick_in(rank: u64) -> u64
     ensures { result ≡ rank / 2 ^ 16 }

@@ -26,8 +26,8 @@ pub(crate) fn first_due_scanned(alarms: &Alarms, tick: u64) -> Option<WorkId>
 pub(crate) fn next_due_scanned(alarms: &Alarms) -> Option<u64>
     ensures { result ≡ ring_of alarms.now (first_to_ring alarms.now) }
 {
-    let w = first_alarm(alarms)?;
-    alarms.get(w)
+    let first = first_alarm(alarms)?;
+    alarms.get(first)
 }
 
 /// The work whose alarm rings first, if there is one.

@@ -1,6 +1,6 @@
-//! The tree of the alarms' ranks. Those of two works differ, so a node has a leaf's rank only where it stands above that leaf.
+//! The tree of the alarms' ranks. Those of two alarms differ, so a node has the rank of one only where it stands above its leaf.
 ghost use Rattle.cmwq_timers.specs.AlarmRanks.{no_alarm};
-ghost use Rattle.cmwq_timers.specs.Tree.{HasGiven, IsLeaf, IsTree, rank_at};
+ghost use Rattle.cmwq_timers.specs.Tree.{HasGiven, IsLeaf, IsTree, beside, rank_at};
 ghost use Rattle.std.specs.Prelude.{◌≡◌, ◌≤◌};
 
 use crate::alarm_ranks::NO_ALARM;
@@ -27,7 +27,8 @@ pub(crate) fn lower_alarm(ranks: &mut [u64], leaf: usize, rank: u64)
 
 /// Gives a leaf the rank of no alarm, and each node above that had the leaf's the lesser of the two below it.
 ///
-/// Which of two ranks is the lesser can't be foretold, so it is found without a jump, and both are read on each step.
+/// Which of two ranks is the lesser can't be foretold, so it is found without a jump. The one of the step before is kept: of the two below a node
+/// only the other is read.
 #[inline(always)]
 pub(crate) fn raise_alarm(ranks: &mut [u64], leaf: usize)
     requires tree { IsTree ranks.old }
@@ -37,12 +38,22 @@ pub(crate) fn raise_alarm(ranks: &mut [u64], leaf: usize)
 {
     let was = ranks[leaf];
     ranks[leaf] = NO_ALARM;
+    let mut lesser = NO_ALARM.min(ranks[beside(leaf)]);
     let mut at = leaf / 2;
     while at > 0 {
         if ranks[at] != was {
             return;
         }
-        ranks[at] = ranks[2 * at].min(ranks[2 * at + 1]);
+        ranks[at] = lesser;
+        lesser = lesser.min(ranks[beside(at)]);
         at /= 2;
     }
+}
+
+/// The node that stands beside one, below the same node.
+#[inline(always)]
+fn beside(node: usize) -> usize
+    ensures { result ≡ beside node }
+{
+    node ^ 1
 }

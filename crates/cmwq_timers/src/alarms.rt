@@ -2,7 +2,7 @@
 ghost use Rattle.cmwq_timers.specs.Alarms.{alarm_at, first_to_ring, if_rings_by, ring_of};
 ghost use Rattle.std.specs.Prelude.{◌≡◌, ◌<◌, ◌^◌, IfOk, IfSome, None, Some, length, option_map, replicate, slice_set};
 
-use crate::alarm_ranks::{LAST_TICK, NO_ALARM, alarm_rank, tick_in, work_of};
+use crate::alarm_ranks::{FIRST_LATE, NO_ALARM, alarm_rank, tick_in, work_of};
 use crate::alarm_scan::{first_due_scanned, next_due_scanned};
 use crate::alarm_tree::{lower_alarm, raise_alarm};
 use cmwq_types::{NoMemory, WorkId, filled};
@@ -86,7 +86,7 @@ impl Alarms {
         if tick_in(rank) > tick {
             return None;
         }
-        if tick_in(rank) >= LAST_TICK {
+        if rank >= FIRST_LATE {
             return first_due_scanned(self, tick);
         }
         Some(work_of(rank))
@@ -98,7 +98,7 @@ impl Alarms {
         ensures { result ≡ ring_of self.now (first_to_ring self.now) }
     {
         let rank = self.ranks[1];
-        if tick_in(rank) < LAST_TICK {
+        if rank < FIRST_LATE {
             return Some(tick_in(rank));
         }
         if rank == NO_ALARM {
