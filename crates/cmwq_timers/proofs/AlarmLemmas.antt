@@ -7,30 +7,30 @@ use Rattle.std.proofs.lemmas.List.{ext_get_or, get_or-replicate, get_or_read, ge
 use Rattle.std.proofs.lemmas.List.FromFn.{get_or-map-range_with_len, length-map-range_with_len}
 use Rattle.cmwq_types.specs.First.{MatchFirst, by_least}
 use Rattle.cmwq_types.proofs.FirstLemmas.{by_least-order, first_below-is_first, first_below-none, first_below-unique}
-use Rattle.cmwq_timers.specs.AlarmRanks.{IsAlarmTree, IsOwnRank, alarm_of, alarm_rank, alarms_in, last_tick, leaf_rank, no_alarm, tick_at}
+use Rattle.cmwq_timers.specs.AlarmRanks.{IsAlarmTree, IsOwnRank, alarm_kept, alarm_rank, alarms_in, first_late_tick, leaf_rank, no_alarm, tick_at}
 use Rattle.cmwq_timers.specs.Alarms.{alarm_at, first_to_ring, if_rings_by, ring_of, tick_or_0}
 use Rattle.cmwq_timers.specs.Tree.{HasGiven, IsLeaf, IsTree, rank_at}
 use Rattle.cmwq_timers.proofs.TreeLemmas.{root_leaf, root_least}
 
 -- One alarm.
 
-pub alarm_none : (tick rank : ℕ) → rank ≡ no_alarm → alarm_of tick rank ≡ None
-alarm_none tick rank is = ap (alarm_of tick) is
+pub alarm_none : (tick rank : ℕ) → rank ≡ no_alarm → alarm_kept tick rank ≡ None
+alarm_none tick rank is = ap (alarm_kept tick) is
 
-pub alarm_some : (tick rank : ℕ) → rank ≢ no_alarm → alarm_of tick rank ≡ Some tick
+pub alarm_some : (tick rank : ℕ) → rank ≢ no_alarm → alarm_kept tick rank ≡ Some tick
 alarm_some tick rank some =
     let test : (rank == no_alarm) ≡ false = grind (arith, nat_tests) in
     ap (λ (b : Bool). cond b None (Some tick)) test
 
 -- where it tells none, there is none
-none_in : (tick rank : ℕ) → alarm_of tick rank ≡ None → rank ≡ no_alarm
+none_in : (tick rank : ℕ) → alarm_kept tick rank ≡ None → rank ≡ no_alarm
 none_in tick rank is = elim (cases_eq rank no_alarm) [
   | inl same ↦ same
   | inr other ↦ absurd (let some = alarm_some tick rank other in cc)
 ]
 
-some_in : (tick rank : ℕ) → is_some (alarm_of tick rank) ≡ true → rank ≢ no_alarm
-some_in tick rank some none = absurd (let is = alarm_none tick rank none in let gone : is_some (alarm_of tick rank) ≡ false = ap is_some is in cc)
+some_in : (tick rank : ℕ) → is_some (alarm_kept tick rank) ≡ true → rank ≢ no_alarm
+some_in tick rank some none = absurd (let is = alarm_none tick rank none in let gone : is_some (alarm_kept tick rank) ≡ false = ap is_some is in cc)
 
 -- an alarm has a lesser rank than none
 before_none : (w tick : ℕ) → w < 2 ^ 16 - 1 → alarm_rank w tick < no_alarm
@@ -46,12 +46,12 @@ is_by tick by no_later = grind (arith, nat_tests)
 -- The alarms.
 
 abbrev each : List ℕ → List ℕ → ℕ → Option ℕ
-each ticks ranks w = alarm_of (tick_at ticks w) (leaf_rank ranks w)
+each ticks ranks w = alarm_kept (tick_at ticks w) (leaf_rank ranks w)
 
 pub alarms_long : (ticks ranks : List ℕ) → length (alarms_in ticks ranks) ≡ length ticks
 alarms_long ticks ranks = length-map-range_with_len (each ticks ranks) 0 (length ticks)
 
-pub alarm_is : (ticks ranks : List ℕ) (w : ℕ) → w < length ticks → alarm_at (alarms_in ticks ranks) w ≡ alarm_of (tick_at ticks w) (leaf_rank ranks w)
+pub alarm_is : (ticks ranks : List ℕ) (w : ℕ) → w < length ticks → alarm_at (alarms_in ticks ranks) w ≡ alarm_kept (tick_at ticks w) (leaf_rank ranks w)
 alarm_is ticks ranks w inside = get_or-map-range_with_len (each ticks ranks) 0 (length ticks) w w None inside (omega arith)
 
 -- as many as there are works
@@ -161,12 +161,12 @@ module _ (ticks ranks : List ℕ) (kept : IsAlarmTree ticks ranks) where
         tree = tree;
       }
 
-      pub alarms-with : alarms_in new_ticks new_ranks ≡ set (alarms_in ticks ranks) w (alarm_of (tick_at new_ticks w) rank)
+      pub alarms-with : alarms_in new_ticks new_ranks ≡ set (alarms_in ticks ranks) w (alarm_kept (tick_at new_ticks w) rank)
       alarms-with =
           ext_get_or None (alarms_in new_ticks new_ranks) (set (alarms_in ticks ranks) w alarm) (alarms_long new_ticks new_ranks ∙ as_many ∙ sym (length-set (alarms_in ticks ranks) w alarm ∙ alarms_long ticks ranks)) by_work
         where
           alarm : Option ℕ
-          alarm = alarm_of (tick_at new_ticks w) rank
+          alarm = alarm_kept (tick_at new_ticks w) rank
 
           by_work : (v : ℕ) → v < length (alarms_in new_ticks new_ranks) → alarm_at (alarms_in new_ticks new_ranks) v ≡ alarm_at (set (alarms_in ticks ranks) w alarm) v
           by_work v below =
@@ -175,10 +175,10 @@ module _ (ticks ranks : List ℕ) (kept : IsAlarmTree ticks ranks) where
               let here = alarm_is new_ticks new_ranks v (omega (arith, below, many_now)) in
               elim (cases_eq v w) [
                 | inl same ↦
-                    here ∙ ap (λ (k : ℕ). alarm_of (tick_at new_ticks k) (leaf_rank new_ranks k)) same ∙ ap (alarm_of (tick_at new_ticks w)) rank_here
+                    here ∙ ap (λ (k : ℕ). alarm_kept (tick_at new_ticks k) (leaf_rank new_ranks k)) same ∙ ap (alarm_kept (tick_at new_ticks w)) rank_here
                     ∙ sym (ap (alarm_at (set (alarms_in ticks ranks) w alarm)) same ∙ get_or-set_same (alarms_in ticks ranks) w alarm None (omega (arith, inside, many)))
                 | inr other ↦
-                    here ∙ ap (λ (tick : ℕ). alarm_of tick (leaf_rank new_ranks v)) (others v other) ∙ ap (alarm_of (tick_at ticks v)) (rank_other v other)
+                    here ∙ ap (λ (tick : ℕ). alarm_kept tick (leaf_rank new_ranks v)) (others v other) ∙ ap (alarm_kept (tick_at ticks v)) (rank_other v other)
                     ∙ sym (alarm_is ticks ranks v (omega (arith, below, many_now, as_many)))
                     ∙ sym (get_or-set_other (alarms_in ticks ranks) w v alarm None other)
               ]
@@ -268,7 +268,7 @@ module _ (ticks ranks : List ℕ) (kept : IsAlarmTree ticks ranks) where
     pub rings : alarm_at (alarms_in ticks ranks) (rank_at ranks 1 % 2 ^ 16) ≡ Some (rank_at ranks 1 / 2 ^ 16)
     pub inside : rank_at ranks 1 % 2 ^ 16 < length (alarms_in ticks ranks)
 
-  pub has-root : rank_at ranks 1 < last_tick * 2 ^ 16 → HasRoot
+  pub has-root : rank_at ranks 1 < first_late_tick * 2 ^ 16 → HasRoot
   has-root whole =
       let root = root_leaf ranks even kept.tree (omega (arith, long)) in
       let root_is = root.is in

@@ -2,19 +2,19 @@
 use Rattle.std.proofs.Common.{◌≡◌, ◌≢◌, ◌⊎◌, ℕ, suc, zero, ◌+◌, ◌-◌, ◌*◌, ◌/◌, ◌<◌, ◌≤◌, List, length, min, set, arith, refl, sym, ap, subst, ◌∙◌, inl, inr}
 use Rattle.std.proofs.lemmas.Bool.{cases_eq, cases_lt}
 use Rattle.std.proofs.lemmas.List.{get_or-set_same, get_or-set_other, length-set}
-use Rattle.cmwq_timers.specs.Tree.{IsTree, IsTreeBut, HasGiven, HasLesser, IsLeaf, beside, rank_at}
+use Rattle.cmwq_timers.specs.Tree.{IsTree, IsTreeBut, HasGiven, HasLesser, IsLeaf, node_beside, rank_at}
 
 -- a node and the one beside it are the two below the one above
-pub pair : (ranks : List ℕ) (node : ℕ) → min (rank_at ranks (2 * (node / 2))) (rank_at ranks (2 * (node / 2) + 1)) ≡ min (rank_at ranks node) (rank_at ranks (beside node))
+pub pair : (ranks : List ℕ) (node : ℕ) → min (rank_at ranks (2 * (node / 2))) (rank_at ranks (2 * (node / 2) + 1)) ≡ min (rank_at ranks node) (rank_at ranks (node_beside node))
 pair ranks node = elim (cases_eq node (2 * (node / 2))) [
   | inl even ↦
-      let right : 2 * (node / 2) + 1 ≡ beside node = omega (arith, even) in
+      let right : 2 * (node / 2) + 1 ≡ node_beside node = omega (arith, even) in
       ap (λ (k : ℕ). min (rank_at ranks k) (rank_at ranks (2 * (node / 2) + 1))) (sym even) ∙ ap (λ (k : ℕ). min (rank_at ranks node) (rank_at ranks k)) right
   | inr odd ↦
       let here : 2 * (node / 2) + 1 ≡ node = omega (arith, odd) in
-      let left : 2 * (node / 2) ≡ beside node = omega (arith, here) in
-      let swapped : min (rank_at ranks (beside node)) (rank_at ranks node) ≡ min (rank_at ranks node) (rank_at ranks (beside node)) = omega arith in
-      ap (λ (k : ℕ). min (rank_at ranks k) (rank_at ranks (2 * (node / 2) + 1))) left ∙ ap (λ (k : ℕ). min (rank_at ranks (beside node)) (rank_at ranks k)) here ∙ swapped
+      let left : 2 * (node / 2) ≡ node_beside node = omega (arith, here) in
+      let swapped : min (rank_at ranks (node_beside node)) (rank_at ranks node) ≡ min (rank_at ranks node) (rank_at ranks (node_beside node)) = omega arith in
+      ap (λ (k : ℕ). min (rank_at ranks k) (rank_at ranks (2 * (node / 2) + 1))) left ∙ ap (λ (k : ℕ). min (rank_at ranks (node_beside node)) (rank_at ranks k)) here ∙ swapped
 ]
 
 -- One node has another rank.
@@ -43,11 +43,11 @@ module _ (ranks : List ℕ) (node rank : ℕ) (inside : node < length ranks) whe
       rw (here, left, right) is
 
   -- above it and the one beside it
-  pub pair-new : 0 < node → min (rank_at new (2 * (node / 2))) (rank_at new (2 * (node / 2) + 1)) ≡ min rank (rank_at ranks (beside node))
+  pub pair-new : 0 < node → min (rank_at new (2 * (node / 2))) (rank_at new (2 * (node / 2) + 1)) ≡ min rank (rank_at ranks (node_beside node))
   pair-new above =
       pair new node
-      ∙ ap (λ (r : ℕ). min r (rank_at new (beside node))) here
-      ∙ ap (min rank) (other (beside node) (λ same. absurd (omega (arith, same))))
+      ∙ ap (λ (r : ℕ). min r (rank_at new (node_beside node))) here
+      ∙ ap (min rank) (other (node_beside node) (λ same. absurd (omega (arith, same))))
 
   pub above-new : 0 < node → rank_at new (node / 2) ≡ rank_at ranks (node / 2)
   above-new above = other (node / 2) (λ same. absurd (omega (arith, same, above)))
@@ -131,8 +131,8 @@ Counts ranks rank at = 0 < at → min (rank_at ranks at) rank ≡ min (rank_at r
 counts-above : (ranks : List ℕ) (node rank : ℕ) → node < length ranks → (0 < node / 2 → HasLesser ranks (node / 2)) → rank ≤ rank_at ranks node → Counts (set ranks node rank) rank (node / 2)
 counts-above ranks node rank inside lesser less above =
     let low : 0 < node = omega (arith, above) in
-    let is : rank_at ranks (node / 2) ≡ min (rank_at ranks node) (rank_at ranks (beside node)) = lesser above ∙ pair ranks node in
-    let least : min (rank_at ranks (node / 2)) rank ≡ min rank (rank_at ranks (beside node)) = omega (arith, is, less) in
+    let is : rank_at ranks (node / 2) ≡ min (rank_at ranks node) (rank_at ranks (node_beside node)) = lesser above ∙ pair ranks node in
+    let least : min (rank_at ranks (node / 2)) rank ≡ min rank (rank_at ranks (node_beside node)) = omega (arith, is, less) in
     ap (λ (r : ℕ). min r rank) (above-new ranks node rank inside low) ∙ least ∙ sym (pair-new ranks node rank inside low)
 
 pub record IsLowering (was ranks : List ℕ) (leaf rank at : ℕ) : Type 0 where
@@ -165,16 +165,16 @@ HadIt ranks low at = 0 < at → HasLesser ranks at ⊎ ((rank_at ranks at ≡ lo
 had-above : (ranks : List ℕ) (node rank low : ℕ) → node < length ranks → (0 < node / 2 → HasLesser ranks (node / 2)) → rank_at ranks node ≡ low → low ≤ rank → HadIt (set ranks node rank) low (node / 2)
 had-above ranks node rank low inside lesser was no_less above =
     let high : 0 < node = omega (arith, above) in
-    let is : rank_at ranks (node / 2) ≡ min (rank_at ranks node) (rank_at ranks (beside node)) = lesser above ∙ pair ranks node in
+    let is : rank_at ranks (node / 2) ≡ min (rank_at ranks node) (rank_at ranks (node_beside node)) = lesser above ∙ pair ranks node in
     let stays = above-new ranks node rank inside high in
     let both = pair-new ranks node rank inside high in
-    elim (cases_lt (rank_at ranks (beside node)) low) [
+    elim (cases_lt (rank_at ranks (node_beside node)) low) [
       | inl lower ↦
-          let least : rank_at ranks (node / 2) ≡ min rank (rank_at ranks (beside node)) = omega (arith, is, was, no_less, lower) in
+          let least : rank_at ranks (node / 2) ≡ min rank (rank_at ranks (node_beside node)) = omega (arith, is, was, no_less, lower) in
           inl (stays ∙ least ∙ sym both)
       | inr higher ↦
           let had : rank_at ranks (node / 2) ≡ low = omega (arith, is, was, higher) in
-          let none_lower : low ≤ min rank (rank_at ranks (beside node)) = omega (arith, no_less, higher) in
+          let none_lower : low ≤ min rank (rank_at ranks (node_beside node)) = omega (arith, no_less, higher) in
           inr (stays ∙ had, subst (λ (r : ℕ). low ≤ r) (sym both) none_lower)
     ]
 
@@ -202,7 +202,7 @@ raising-goes-up was ranks leaf low most at raising high =
             | inl lesser ↦ λ above.
                 inl (
                 above-new ranks at next inside high ∙ above-on was ranks leaf most at way high above ∙ pair ranks at
-                ∙ ap (λ (r : ℕ). min r (rank_at ranks (beside at))) lesser ∙ sym (pair-new ranks at next inside high)
+                ∙ ap (λ (r : ℕ). min r (rank_at ranks (node_beside at))) lesser ∙ sym (pair-new ranks at next inside high)
                 )
             | inr had ↦ had-above ranks at next low inside (above-on was ranks leaf most at way high) had.0 had.1
           ];
@@ -216,9 +216,9 @@ abbrev pub IsLesser : List ℕ → ℕ → ℕ → Type 0
 IsLesser ranks at lesser = 0 < at → lesser ≡ min (rank_at ranks (2 * at)) (rank_at ranks (2 * at + 1))
 
 -- above a node that has another rank it's the lesser of that and of the one beside it
-pub lesser-above : (ranks : List ℕ) (node rank : ℕ) → node < length ranks → IsLesser (set ranks node rank) (node / 2) (min rank (rank_at (set ranks node rank) (beside node)))
+pub lesser-above : (ranks : List ℕ) (node rank : ℕ) → node < length ranks → IsLesser (set ranks node rank) (node / 2) (min rank (rank_at (set ranks node rank) (node_beside node)))
 lesser-above ranks node rank inside above =
-    sym (pair (set ranks node rank) node ∙ ap (λ (r : ℕ). min r (rank_at (set ranks node rank) (beside node))) (here ranks node rank inside))
+    sym (pair (set ranks node rank) node ∙ ap (λ (r : ℕ). min r (rank_at (set ranks node rank) (node_beside node))) (here ranks node rank inside))
 
 -- The root.
 

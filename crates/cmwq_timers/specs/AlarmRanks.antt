@@ -3,9 +3,9 @@ use Rattle.std.specs.Prelude.{◌≡◌, ◌≢◌, ℕ, ◌+◌, ◌-◌, ◌*�
 use Rattle.std.specs.List.{range_with_len}
 use Rattle.cmwq_timers.specs.Tree.{IsTree, rank_at}
 
--- the first of the ticks that have one rank
-abbrev pub last_tick : ℕ
-last_tick = 2 ^ 48 - 1
+-- the first of the ticks that are one tick in a rank
+abbrev pub first_late_tick : ℕ
+first_late_tick = 2 ^ 48 - 1
 
 -- the rank of no alarm, which is greater than all others
 abbrev pub no_alarm : ℕ
@@ -13,11 +13,11 @@ no_alarm = 2 ^ 64 - 1
 
 -- by tick, then by work
 abbrev pub alarm_rank : ℕ → ℕ → ℕ
-alarm_rank w tick = min tick last_tick * 2 ^ 16 + w
+alarm_rank w tick = min tick first_late_tick * 2 ^ 16 + w
 
 -- the alarm that a work has, by the tick that is kept for it and its leaf's rank: of a work that has none the tick tells nothing
-abbrev pub alarm_of : ℕ → ℕ → Option ℕ
-alarm_of tick rank = if rank == no_alarm then None else Some tick
+abbrev pub alarm_kept : ℕ → ℕ → Option ℕ
+alarm_kept tick rank = if rank == no_alarm then None else Some tick
 
 abbrev pub tick_at : List ℕ → ℕ → ℕ
 tick_at ticks w = slice_index_or ticks w 0
@@ -28,7 +28,7 @@ leaf_rank ranks w = rank_at ranks (length ranks / 2 + w)
 
 -- the alarm of each work
 abbrev pub alarms_in : List ℕ → List ℕ → List (Option ℕ)
-alarms_in ticks ranks = map (λ w. alarm_of (tick_at ticks w) (leaf_rank ranks w)) (range_with_len 0 (length ticks))
+alarms_in ticks ranks = map (λ w. alarm_kept (tick_at ticks w) (leaf_rank ranks w)) (range_with_len 0 (length ticks))
 
 -- the rank is that of none, or of the alarm of this work at the tick that is kept for it
 abbrev pub IsOwnRank : List ℕ → ℕ → ℕ → Type 0

@@ -24,8 +24,8 @@ abbrev pub rank_at : List ℕ → ℕ → ℕ
 rank_at ranks node = slice_index_or ranks node 0
 
 -- the node that stands beside one, below the same node
-abbrev pub beside : ℕ → ℕ
-beside node = 4 * (node / 2) + 1 - node
+abbrev pub node_beside : ℕ → ℕ
+node_beside node = 4 * (node / 2) + 1 - node
 
 -- the node has the lesser of the two ranks below it
 abbrev pub HasLesser : List ℕ → ℕ → Type 0

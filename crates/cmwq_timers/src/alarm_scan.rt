@@ -1,4 +1,4 @@
-//! The first alarm, by a look at each. It is asked for only where no alarm rings before tick 2^48 - 1, from which on all have one rank.
+//! The first alarm, by a look at each. It is asked for only where none rings before tick 2^48 - 1, from which on ranks don't tell ticks apart.
 ghost use Rattle.cmwq_timers.specs.Alarms.{alarm_at, first_to_ring, if_rings_by, ring_of, tick_or_0};
 ghost use Rattle.cmwq_types.specs.First.{by_least, first_with};
 ghost use Rattle.std.specs.Prelude.{◌≡◌, ◌<◌, ◌^◌, IfSome, length, option_map, true};
@@ -39,14 +39,14 @@ fn first_alarm(alarms: &Alarms) -> Option<usize>
     let mut first = None;
     for w in 0..alarms.len() {
         if alarms.get(w).is_some() {
-            first = sooner(alarms, first, w);
+            first = sooner_alarm(alarms, first, w);
         }
     }
     first
 }
 
 /// The work, or the first so far where the work's alarm doesn't ring before that one's.
-fn sooner(alarms: &Alarms, first: Option<usize>, w: usize) -> Option<usize>
+fn sooner_alarm(alarms: &Alarms, first: Option<usize>, w: usize) -> Option<usize>
     requires work { w < length alarms.now }
     requires first { IfSome first (λ v. v < length alarms.now) }
     ensures { result ≡ first_with (by_least (λ v. tick_or_0 (alarm_at alarms.now v))) w true first }

@@ -1,6 +1,6 @@
 //! The tree of the alarms' ranks. Those of two alarms differ, so a node has the rank of one only where it stands above its leaf.
 ghost use Rattle.cmwq_timers.specs.AlarmRanks.{no_alarm};
-ghost use Rattle.cmwq_timers.specs.Tree.{HasGiven, IsLeaf, IsTree, beside, rank_at};
+ghost use Rattle.cmwq_timers.specs.Tree.{HasGiven, IsLeaf, IsTree, node_beside, rank_at};
 ghost use Rattle.std.specs.Prelude.{◌≡◌, ◌≤◌};
 
 use crate::alarm_ranks::NO_ALARM;
@@ -38,22 +38,22 @@ pub(crate) fn raise_alarm(ranks: &mut [u64], leaf: usize)
 {
     let was = ranks[leaf];
     ranks[leaf] = NO_ALARM;
-    let mut lesser = NO_ALARM.min(ranks[beside(leaf)]);
+    let mut lesser = NO_ALARM.min(ranks[node_beside(leaf)]);
     let mut at = leaf / 2;
     while at > 0 {
         if ranks[at] != was {
             return;
         }
         ranks[at] = lesser;
-        lesser = lesser.min(ranks[beside(at)]);
+        lesser = lesser.min(ranks[node_beside(at)]);
         at /= 2;
     }
 }
 
 /// The node that stands beside one, below the same node.
 #[inline(always)]
-fn beside(node: usize) -> usize
-    ensures { result ≡ beside node }
+fn node_beside(node: usize) -> usize
+    ensures { result ≡ node_beside node }
 {
     node ^ 1
 }

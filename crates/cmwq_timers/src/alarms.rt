@@ -2,7 +2,7 @@
 ghost use Rattle.cmwq_timers.specs.Alarms.{alarm_at, first_to_ring, if_rings_by, ring_of};
 ghost use Rattle.std.specs.Prelude.{◌≡◌, ◌<◌, ◌^◌, IfOk, IfSome, None, Some, length, option_map, replicate, slice_set};
 
-use crate::alarm_ranks::{FIRST_LATE, NO_ALARM, alarm_rank, tick_in, work_of};
+use crate::alarm_ranks::{FIRST_LATE_RANK, NO_ALARM, alarm_rank, alarm_work, tick_in};
 use crate::alarm_scan::{first_due_scanned, next_due_scanned};
 use crate::alarm_tree::{lower_alarm, raise_alarm};
 use cmwq_types::{NoMemory, WorkId, filled};
@@ -11,9 +11,9 @@ use std::marker::Model;
 
 /// When an alarm of each of some works rings, if it has one, the works numbered from 0.
 ///
-/// Above the alarms stands a tree of their ranks, as above timers, but ranks have 64 bits: the tick, in 48, and the work, in 16, or all ones. So a
-/// step up is half as long. From tick 2^48 - 1 on all have one rank: so ticks are kept whole beside the tree, and are looked at only where the root
-/// has that rank. What is kept for a work without an alarm tells nothing. All room is taken by `new` and `copy`.
+/// Above the alarms stands a tree of their ranks, as above timers, but of 64 bits: in a work's leaf stand the tick, in 48, and the work, in 16, or
+/// all ones. So a step up takes half as long. Ticks from 2^48 - 1 on are one tick there: so each is kept whole beside the tree, and is looked at
+/// only where the root has that one. What is kept for a work without an alarm tells nothing. All room is taken by `new` and `copy`.
 #[derive(Drop)]
 pub struct Alarms {
     ticks: Vec<u64>,
@@ -86,10 +86,10 @@ impl Alarms {
         if tick_in(rank) > tick {
             return None;
         }
-        if rank >= FIRST_LATE {
+        if rank >= FIRST_LATE_RANK {
             return first_due_scanned(self, tick);
         }
-        Some(work_of(rank))
+        Some(alarm_work(rank))
     }
 
     /// When the first alarm rings, if there is one.
@@ -98,7 +98,7 @@ impl Alarms {
         ensures { result ≡ ring_of self.now (first_to_ring self.now) }
     {
         let rank = self.ranks[1];
-        if rank < FIRST_LATE {
+        if rank < FIRST_LATE_RANK {
             return Some(tick_in(rank));
         }
         if rank == NO_ALARM {

@@ -18,6 +18,6 @@ loop-at-preserved c =
           subst (λ (rank : ℕ). IsRaising was (set ranks at rank) c.args.leaf low no_alarm (at / 2)) (sym (c.loop-at.invariant.lesser c.loop-at-test.true))
           (raising-goes-up was ranks c.args.leaf low no_alarm at raising c.loop-at-test.true);
       lesser = λ above.
-          c.min-lesser-in-loop-at.ensures ∙ ap (λ (k : ℕ). min lesser (rank_at (set ranks at lesser) k)) c.beside-in-loop-at.ensures
+          c.min-lesser-in-loop-at.ensures ∙ ap (λ (k : ℕ). min lesser (rank_at (set ranks at lesser) k)) c.node_beside-in-loop-at.ensures
           ∙ lesser-above ranks at lesser (omega (arith, inner)) above;
     }

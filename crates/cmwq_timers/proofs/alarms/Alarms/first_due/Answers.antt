@@ -21,8 +21,8 @@ returns-clause-first c =
     let root : c.index-rank.result.now ≡ rank_at ranks 1 = get_or_read ranks 1 c.index-rank.result.now (omega (arith, c.self.invariant.long)) c.index-rank.ensures 0 in
     let half = ap (λ (rank : ℕ). rank / 2 ^ 16) root in
     let by_then : rank_at ranks 1 / 2 ^ 16 ≤ c.args.tick = omega (arith, c.if-tick_in-tick.false, c.tick_in.ensures, half) in
-    let has = has-root ticks ranks c.self.invariant (omega (arith, c.if-rank-ge-FIRST_LATE.false, root)) in
-    ap Some (c.work_of.ensures ∙ ap (λ (rank : ℕ). rank % 2 ^ 16) root)
+    let has = has-root ticks ranks c.self.invariant (omega (arith, c.if-rank-ge-FIRST_LATE_RANK.false, root)) in
+    ap Some (c.alarm_work.ensures ∙ ap (λ (rank : ℕ). rank % 2 ^ 16) root)
     ∙ rings-by ticks ranks c.self.invariant c.args.tick has by_then
     ∙ ap (λ (alarms : List (Option ℕ)). if_rings_by alarms c.args.tick (first_to_ring alarms)) c.self.view_is
 
@@ -31,6 +31,6 @@ returns-clause-in_range c =
     let ticks = c.self.inside.ticks.items in
     let ranks = c.self.inside.ranks.items in
     let root : c.index-rank.result.now ≡ rank_at ranks 1 = get_or_read ranks 1 c.index-rank.result.now (omega (arith, c.self.invariant.long)) c.index-rank.ensures 0 in
-    let has = has-root ticks ranks c.self.invariant (omega (arith, c.if-rank-ge-FIRST_LATE.false, root)) in
-    let work : c.work_of.result.0 ≡ rank_at ranks 1 % 2 ^ 16 = c.work_of.ensures ∙ ap (λ (rank : ℕ). rank % 2 ^ 16) root in
-    subst (λ (alarms : List (Option ℕ)). c.work_of.result.0 < length alarms) c.self.view_is (subst (λ (w : ℕ). w < length (alarms_in ticks ranks)) (sym work) has.inside)
+    let has = has-root ticks ranks c.self.invariant (omega (arith, c.if-rank-ge-FIRST_LATE_RANK.false, root)) in
+    let work : c.alarm_work.result.0 ≡ rank_at ranks 1 % 2 ^ 16 = c.alarm_work.ensures ∙ ap (λ (rank : ℕ). rank % 2 ^ 16) root in
+    subst (λ (alarms : List (Option ℕ)). c.alarm_work.result.0 < length alarms) c.self.view_is (subst (λ (w : ℕ). w < length (alarms_in ticks ranks)) (sym work) has.inside)

@@ -5,12 +5,12 @@ use Rattle.cmwq_timers.specs.Tree.{rank_at}
 use Rattle.cmwq_timers.proofs.AlarmLemmas.{has-root, next-is, none-first}
 use Rattle.cmwq_timers.proofs.alarms.Alarms.next_due.Goals as goal
 
-pub returns-then-rank-lt-FIRST_LATE : goal.returns-then-rank-lt-FIRST_LATE
-returns-then-rank-lt-FIRST_LATE c =
+pub returns-then-rank-lt-FIRST_LATE_RANK : goal.returns-then-rank-lt-FIRST_LATE_RANK
+returns-then-rank-lt-FIRST_LATE_RANK c =
     let ticks = c.self.inside.ticks.items in
     let ranks = c.self.inside.ranks.items in
     let root : c.index-rank.result.now ≡ rank_at ranks 1 = get_or_read ranks 1 c.index-rank.result.now (omega (arith, c.self.invariant.long)) c.index-rank.ensures 0 in
-    let has = has-root ticks ranks c.self.invariant (omega (arith, c.if-rank-lt-FIRST_LATE.true, root)) in
+    let has = has-root ticks ranks c.self.invariant (omega (arith, c.if-rank-lt-FIRST_LATE_RANK.true, root)) in
     ap Some (c.tick_in.ensures ∙ ap (λ (rank : ℕ). rank / 2 ^ 16) root)
     ∙ next-is ticks ranks c.self.invariant has
     ∙ ap (λ (alarms : List (Option ℕ)). ring_of alarms (first_to_ring alarms)) c.self.view_is
