@@ -425,6 +425,10 @@ impl Parts for CoreParts {
     fn spend(&mut self, count: u32) {
         self.spent += count;
     }
+
+    fn skip_stamps(&mut self, count: u32) {
+        self.next += u64::from(count);
+    }
 }
 
 impl CoreParts {

@@ -3,14 +3,17 @@ ghost use Rattle.cmwq_exec.specs.Advances.{HasAdvanced};
 ghost use Rattle.cmwq_exec.specs.Performing.{next_reply};
 ghost use Rattle.cmwq_table.specs.Ready.{IsKept};
 ghost use Rattle.cmwq_table.specs.Repeats.{HasAnswered, HasGone, HasRepeated, reply_of};
+ghost use Rattle.cmwq_table.specs.State.{is_disabled};
 ghost use Rattle.cmwq_table.specs.Table.{is_met, operands};
-ghost use Rattle.std.specs.Prelude.{◌≡◌, ◌+◌, ◌-◌, ◌<◌, ◌≤◌, ◌&&◌, is_none};
+ghost use Rattle.cmwq_types.specs.declared.instr.Instr.TheVariants as instr;
+ghost use Rattle.cmwq_types.specs.declared.reply.Reply.TheVariants as reply;
+ghost use Rattle.std.specs.Prelude.{◌≡◌, ◌+◌, ◌-◌, ◌<◌, ◌≤◌, ◌&&◌, is_none, not};
 
 use crate::performing::{happen, spend};
 use cmwq_parts::{Going, Parts};
 use cmwq_reads::{is_met, is_question, operands};
 use cmwq_table::{Happened, Went};
-use cmwq_types::{Instr, Reply};
+use cmwq_types::{Instr, Reply, WorkId};
 
 /// Carries out `next` until a reply has a line, at least once and at most so many times. Answers how often that was, and how the last one
 /// came out.
@@ -71,8 +74,9 @@ fn advance<P: Parts>(going: &mut Going<P>, most: u32) -> (u32, Option<Happened>)
     }
 }
 
-/// Carries out again, at most so many times, the instruction that was the last and was answered so, where it is known to change nothing but
-/// what is spent: a question, what was refused, what has what it goes on for, what is queued already, and a cancel of what isn't pending. Answers how often that was.
+/// Carries out again, at most so many times, the instruction that was the last and was answered so, where it is known to come out the same.
+/// What changes nothing but what is spent is a question, what was refused, what has what it goes on for, what is queued already, and a
+/// cancel of what isn't pending; and a `mod` sets the timer anew that it has set. Answers how often that was.
 pub(crate) fn again<P: Parts>(going: &mut Going<P>, instr: Instr, reply: Reply, most: u32) -> u32
     requires kept { IsKept going.old }
     requires answered { HasAnswered going.old.scenario going.old.state instr reply }
@@ -97,6 +101,10 @@ pub(crate) fn again<P: Parts>(going: &mut Going<P>, instr: Instr, reply: Reply, 
             Instr::Cancel(_work) => spend_again(going, most),
             _ => 0,
         },
+        Reply::Changed => match instr {
+            Instr::Mod(work, cpu, ticks) => modify_again(going, work, cpu, ticks, most),
+            _ => 0,
+        },
         _ => 0,
     }
 }
@@ -119,4 +127,34 @@ fn spend_again<P: Parts>(going: &mut Going<P>, most: u32) -> u32
     let count = most.min(left);
     spend(going, count);
     count
+}
+
+/// Sets the timer of a work that is on one anew, at most so many times at once, and no more often than steps are left. Each time the work is
+/// born again, so of all these births the last one is left. Answers how often: never where a `mod` would do something else.
+fn modify_again<P: Parts>(going: &mut Going<P>, work: WorkId, cpu: u8, ticks: u32, most: u32) -> u32
+    requires kept { IsKept going.old }
+    ensures repeated { HasRepeated going.old.scenario going.old.state (instr.Mod work cpu ticks) reply.Changed most result going.new.state }
+    ensures scenario { going.new.scenario ≡ going.old.scenario }
+{
+    let w = work.0 as usize;
+    let count = most.min(steps_left(going));
+    if count == 0 || ticks == 0 || !is_modifiable(going, work, cpu, ticks) {
+        return 0;
+    }
+    match going.parts.pending_of(w) {
+        Some(p) if !p.place.is_placed() => {
+            going.parts.skip_stamps(count - 1);
+            going.replace(w, p, cpu, ticks);
+            spend(going, count);
+            count
+        }
+        _ => 0,
+    }
+}
+
+/// Whether there is such a work and such a CPU, and the work isn't disabled.
+fn is_modifiable<P: Parts>(going: &Going<P>, work: WorkId, cpu: u8, ticks: u32) -> bool
+    ensures { result ≡ (is_none (operands going.now.scenario going.now.state (instr.Mod work cpu ticks)) && not (is_disabled going.now.state work.0)) }
+{
+    operands(&going.parts, Instr::Mod(work, cpu, ticks)).is_none() && !going.is_disabled(work)
 }

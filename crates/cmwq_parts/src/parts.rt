@@ -317,4 +317,9 @@ pub trait Parts: Reads + Drop {
     fn spend(&mut self, count: u32)
         requires left { (Self.state self.old).spent + count ≤ (Self.loaded self.old).steps }
         ensures { holding (Self.loaded self.new) (Self.state self.new) ≡ holding (Self.loaded self.old) (record (Self.state self.old) { spent = (Self.state self.old).spent + count }) };
+
+    /// Takes so many fresh stamps, and gives them to nobody.
+    fn skip_stamps(&mut self, count: u32)
+        requires stamps { (Self.state self.old).next < 2 ^ 63 }
+        ensures { holding (Self.loaded self.new) (Self.state self.new) ≡ holding (Self.loaded self.old) (record (Self.state self.old) { next = (Self.state self.old).next + count }) };
 }

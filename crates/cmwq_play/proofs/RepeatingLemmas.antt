@@ -97,12 +97,12 @@ module _ (S : ScenarioContents) (s once after : State) (i : Instr) (r : Reply) (
   pub repeated-events : events_from S s (replicate (1 + more) i) ≡ repeated (reply_line S after.time i r) (1 + more)
   repeated-events =
       let reply : (table S s i).1 ≡ r = sym (ap (λ (p : State × Reply). p.1) is) in
-      let time : after.time ≡ once.time = ap (λ (t : State). t.time) (again.state ∙ again.same more (omega arith)) in
+      let time : after.time ≡ once.time = ap (λ (t : State). t.time) again.state ∙ again.time more (omega arith) in
       ap (λ (n : ℕ). events_from S s (replicate n i)) (sym place)
       ∙ ap (λ (t : State). reply_line S t.time i (table S s i).1 ++ events_from S t (replicate more i)) state-once
       ∙ ap (λ (q : Reply). reply_line S once.time i q ++ events_from S once (replicate more i)) reply
       ∙ ap (λ (rest : List ℕ). reply_line S once.time i r ++ rest)
-      (same-events S once i r once.time more again.replies (λ k within. ap (λ (t : State). t.time) (again.same k within)))
+      (same-events S once i r once.time more again.replies again.time)
       ∙ ap (λ (t : ℕ). repeated (reply_line S t i r) (suc more)) (sym time)
       ∙ ap (repeated (reply_line S after.time i r)) place
 

@@ -3,6 +3,7 @@ pub mod GoingLemmas
 pub mod HeadLemmas
 pub mod IdleLemmas
 mod LawLemmas
+pub mod ModRepeatLemmas
 pub mod RepeatLemmas
 pub mod RunLemmas
 pub mod TimesLemmas

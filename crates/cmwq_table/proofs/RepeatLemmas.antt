@@ -31,7 +31,7 @@ repeats_always :
 repeats_always S s i r most same = record {
   few = (omega arith);
   state = sym (same_always S s i r same most).0;
-  same = λ times within. rw (same_always S s i r same times).0 refl;
+  time = λ times within. rw (same_always S s i r same times).0 refl;
   replies = λ earlier below. (same_always S s i r same earlier).1;
 }
 
@@ -153,7 +153,7 @@ spends_repeat S t s i r k most count spends is few left =
     subst (λ (x : State). HasRepeated S x i r most count (with_spent x (k + count))) (sym is) (record {
       few = few;
       state = sym (spends_always S t i r spends count k left);
-      same = λ times within. rw (spends_always S t i r spends times k (omega arith)) refl;
+      time = λ times within. rw (spends_always S t i r spends times k (omega arith)) refl;
       replies = λ earlier below.
           let at : after_times S (with_spent t k) i earlier ≡ with_spent t (k + earlier) = spends_always S t i r spends earlier k (omega arith) in
           ap (λ (x : State). (table S x i).1) at ∙ ap (λ (p : State × Reply). p.1) (spends (k + earlier) (omega arith));
@@ -222,6 +222,6 @@ pub none_repeats : (S : ScenarioContents) (s : State) (i : Instr) (r : Reply) (m
 none_repeats S s i r most = record {
   few = (omega arith);
   state = refl;
-  same = λ times within. (let none : 0 ≡ times = omega arith in subst (λ (n : ℕ). after_times S s i n ≡ record s { spent = (after_times S s i n).spent }) none refl);
+  time = λ times within. (let none : 0 ≡ times = omega arith in subst (λ (n : ℕ). (after_times S s i n).time ≡ s.time) none refl);
   replies = λ earlier below. absurd (omega arith);
 }

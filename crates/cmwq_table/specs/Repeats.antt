@@ -39,9 +39,9 @@ pub record HasGone (S : ScenarioContents) (s : State) (most count : ℕ) (after 
 abbrev pub HasAnswered : ScenarioContents → State → Instr → Reply → Type 0
 HasAnswered S after i reply = (before : State) × ((after, reply) ≡ table S before i)
 
--- the instruction was carried out so many times more: it was answered the same each time, and each time nothing changed but what is spent
+-- the instruction was carried out so many times more: it was answered the same each time, and no time passed
 pub record HasRepeated (S : ScenarioContents) (s : State) (i : Instr) (reply : Reply) (most count : ℕ) (after : State) : Type 0 where
   pub few : count ≤ most
   pub state : after ≡ after_times S s i count
-  pub same : (times : ℕ) → times ≤ count → after_times S s i times ≡ record s { spent = (after_times S s i times).spent }
+  pub time : (times : ℕ) → times ≤ count → (after_times S s i times).time ≡ s.time
   pub replies : (earlier : ℕ) → earlier < count → reply_behind S s i earlier ≡ reply

@@ -108,7 +108,7 @@ pub trait Machine: Reads + Drop {
         ensures scenario { Self.loaded self.new ≡ Self.loaded self.old };
 
     /// Carries out again, at most so many times, the instruction that was the last and was answered so, as long as it comes out the same: it
-    /// is answered the same, and changes nothing but what is spent. Answers how often that was; a machine that doesn't know may answer 0.
+    /// is answered the same, and no time passes. Answers how often that was; a machine that doesn't know may answer 0.
     fn again(&mut self, instr: Instr, reply: Reply, most: u32) -> u32
         requires answered { HasAnswered (Self.loaded self.old) (Self.state self.old) instr reply }
         ensures repeated { HasRepeated (Self.loaded self.old) (Self.state self.old) instr reply most result (Self.state self.new) }

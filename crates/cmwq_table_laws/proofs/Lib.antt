@@ -1,6 +1,7 @@
 mod AcceptingLemmas
 mod BodyLemmas
 mod DepthLemmas
+mod LeavingLemmas
 mod LengthLemmas
 mod PoolLemmas
 mod RepeatingLemmas

@@ -1,15 +1,19 @@
 -- Going on has one end, and what repeats is alike.
-use Rattle.std.proofs.Common.{◌≡◌, ◌⊎◌, ℕ, zero, suc, ◌+◌, ◌-◌, ◌<◌, ◌≤◌, true, List, ◌∷◌, arith, refl, sym, ap, ◌∙◌, subst, inl, inr, replicate}
+use Rattle.std.proofs.Common.{◌≡◌, ◌⊎◌, ℕ, zero, suc, ◌+◌, ◌-◌, ◌<◌, ◌≤◌, true, false, List, ◌∷◌, None, arith, refl, sym, ap, ◌∙◌, subst, inl, inr, replicate}
 use Rattle.std.proofs.lemmas.Bool.{cases_lt}
 use Rattle.cmwq_types.specs.Contents.{ScenarioContents}
 use Rattle.cmwq_types.specs.declared.instr.Instr.{Instr}
-use Rattle.cmwq_types.specs.declared.instr.Instr.TheVariants.{Next}
+use Rattle.cmwq_types.specs.declared.instr.Instr.TheVariants.{Mod, Next}
+use Rattle.cmwq_types.specs.declared.instr.WorkId.{WorkId}
+use Rattle.cmwq_types.specs.declared.reply.Place.TheVariants.{Timer}
 use Rattle.cmwq_types.specs.declared.reply.Reply.{Reply}
 use Rattle.cmwq_table.specs.Events.{is_silent}
-use Rattle.cmwq_table.specs.Repeats.{HasGone, HasRepeated, after_times, reply_behind}
-use Rattle.cmwq_table.specs.State.{State}
-use Rattle.cmwq_table.specs.Table.{replies_from, table}
-use Rattle.cmwq_table_laws.specs.Repeating.{GoesOneWay, RepeatsAlike}
+use Rattle.cmwq_table.specs.Repeats.{HasGone, after_times, reply_behind}
+use Rattle.cmwq_table.specs.State.{State, is_disabled, pending_at}
+use Rattle.cmwq_table.specs.Table.{operands, replies_from, table}
+use Rattle.cmwq_table.proofs.ModRepeatLemmas.{IsOnTimer, mods_come, placed_last}
+use Rattle.cmwq_table_laws.specs.Repeating.{GoesOneWay, RepeatsAlike, RepeatsInPlace, SetsOneTimer, set_once, stays_in_place}
+use Rattle.cmwq_table_laws.proofs.LeavingLemmas.{IsBefore, place-leaves}
 
 -- who stops first stops at a line, which the other would have passed
 not-sooner : (S : ScenarioContents) (s : State) (most count other : ℕ) (after there : State) (reply answer : Reply)
@@ -48,6 +52,41 @@ same-replies S s i reply (suc count) same =
 pub repeats_alike : (S : ScenarioContents) (s : State) (i : Instr) → RepeatsAlike S s i
 unfolding RepeatsAlike
 repeats_alike S s i = λ reply most count after repeated. (
-  subst (λ (t : State). t ≡ record s { spent = t.spent }) (sym repeated.state) (repeated.same count (omega arith)),
+  subst (λ (t : State). t.time ≡ s.time) (sym repeated.state) (repeated.time count (omega arith)),
   same-replies S s i reply count repeated.replies,
 )
+
+-- what stays in place each time has stayed so
+stays-before : (S : ScenarioContents) (i : Instr) (reply : Reply) → stays_in_place i reply ≡ true → (count : ℕ) (s : State)
+    → ((k : ℕ) → k < count → reply_behind S s i k ≡ reply) → ((k : ℕ) → k ≤ count → (after_times S s i k).time ≡ s.time)
+    → IsBefore s (after_times S s i count)
+stays-before S i reply stays zero s same still = refl
+stays-before S i reply stays (suc count) s same still =
+    let once = (table S s i).0 in
+    let time : once.time ≡ s.time = still 1 (omega arith) in
+    let first : IsBefore s once = place-leaves S s i reply (same 0 (omega arith)) time stays in
+    let rest : IsBefore once (after_times S once i count) =
+    stays-before S i reply stays count once (λ k below. same (suc k) (omega arith)) (λ k within. still (suc k) (omega arith) ∙ sym time)
+    in
+    rest ∙ ap (λ (t : State). record t { spent = (after_times S once i count).spent }) first
+
+pub repeats_in_place : (S : ScenarioContents) (s : State) (i : Instr) → RepeatsInPlace S s i
+unfolding RepeatsInPlace
+repeats_in_place S s i = λ reply most count after repeated stays.
+    subst (IsBefore s) (sym repeated.state) (stays-before S i reply stays count s repeated.replies repeated.time)
+
+pub sets_one_timer : (S : ScenarioContents) (s : State) (w : WorkId) (cpu ticks : ℕ) → SetsOneTimer S s w cpu ticks
+unfolding SetsOneTimer
+sets_one_timer S s w cpu zero = λ p count there enabled pends out later some left. absurd (omega arith)
+sets_one_timer S s w cpu (suc less) = λ p count there enabled pends out later some left. by_count count there enabled (subst IsOnTimer (sym pends) out) some left
+  where
+    by_count : (count : ℕ) → operands S s (Mod w cpu (suc less)) ≡ None → is_disabled s w.0 ≡ false → IsOnTimer (pending_at s w.0) → 0 < count
+        → s.spent + count ≤ S.steps → after_times S s (Mod w cpu (suc less)) count ≡ set_once s w cpu (suc less) count
+    by_count zero there enabled waits some left = absurd (omega arith)
+    by_count (suc before) there enabled waits some left =
+        let place = Timer (s.time + suc less) cpu in
+        let one_less : before ≡ suc before - 1 = omega arith in
+        let next : (s.next + before) + 1 ≡ s.next + suc before = omega arith in
+        mods_come S w cpu less before s there enabled waits left
+        ∙ ap (λ (n : ℕ). record (placed_last s w.0 place (s.next + before) (s.spent + suc before)) { next = n }) next
+        ∙ ap (λ (n : ℕ). record (placed_last s w.0 place (s.next + n) (s.spent + suc before)) { next = s.next + suc before }) one_less

@@ -37,12 +37,15 @@ each_kind = record {
   actors = [];
 }
 
--- the instruction that queues the work on the second CPU, and the one that does so after no ticks
+-- the instruction that queues the work on the second CPU, and those that do so after some ticks
 abbrev pub queue_on_1 : ℕ → Instr
 queue_on_1 w = instr.Queue (record { 0 = w }) 1
 
 abbrev pub delay_on_1 : ℕ → ℕ → Instr
 delay_on_1 w ticks = instr.Delay (record { 0 = w }) 1 ticks
+
+abbrev pub mod_on_1 : ℕ → ℕ → Instr
+mod_on_1 w ticks = instr.Mod (record { 0 = w }) 1 ticks
 
 abbrev pub disable_it : ℕ → Instr
 disable_it w = instr.Disable (record { 0 = w })
@@ -69,6 +72,10 @@ g_queues_b = queue_on_1 6 ∷ instr.Next ∷ []
 -- b's timer, on the second CPU, has run out
 abbrev pub b_is_due : List Instr
 b_is_due = delay_on_1 1 1 ∷ instr.Tick ∷ []
+
+-- b's timer, on the second CPU, was set a tick ago, and since then so many times on one of 7 ticks
+abbrev pub b_is_set : ℕ → List Instr
+b_is_set times = delay_on_1 1 5 ∷ instr.Tick ∷ replicate times (mod_on_1 1 7)
 
 -- two CPUs, and a queue n of theirs and an unbound one u; a, of n, delays b, modifies it so that it is placed at once, and cancels it; c, of u,
 -- modifies b; and d, of a queue h of high priority, delays b

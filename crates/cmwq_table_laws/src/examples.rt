@@ -3,9 +3,9 @@
 
 ghost use Rattle.cmwq_table.specs.Laws.{reply_to};
 ghost use Rattle.cmwq_table.specs.Repeats.{HasGone, HasRepeated};
-ghost use Rattle.cmwq_table.specs.State.{State, depth_at};
+ghost use Rattle.cmwq_table.specs.State.{State, depth_at, pending_at};
 ghost use Rattle.cmwq_table.specs.Table.{run};
-ghost use Rattle.cmwq_table_laws.specs.Examples.{a_burns, a_has_done, a_runs, b_is_due, bodies_arm, c_runs, d_runs, delay_on_1, disable_it, each_kind, enable_it, g_queues_b, place_after_all, place_of_b, queue_on_1};
+ghost use Rattle.cmwq_table_laws.specs.Examples.{a_burns, a_has_done, a_runs, b_is_due, b_is_set, bodies_arm, c_runs, d_runs, delay_on_1, disable_it, each_kind, enable_it, g_queues_b, mod_on_1, place_after_all, place_of_b, queue_on_1};
 ghost use Rattle.cmwq_types.specs.Faults.{IsValid};
 ghost use Rattle.cmwq_types.specs.declared.reply.Reply.{Reply};
 ghost use Rattle.std.specs.Prelude.{◌≡◌, ◌∷◌, ◌++◌, [], None, Some, false, replicate, true};
@@ -74,8 +74,21 @@ pub fn next_goes_on_to_a_line()
     ensures later { (after : State) (reply : Reply) → HasGone each_kind (run each_kind a_burns) 9 4 after reply → ⊥ }
 {}
 
-/// A work that is pending can be queued again and again, which is spent; a disable counts although nothing was pending.
+/// A work that is pending can be queued again and again, which is spent. A disable counts although nothing was pending, so it comes out the
+/// same, but not in the same state; and a tick doesn't, since time passes.
 pub fn what_is_pending_stays_so()
     ensures again { HasRepeated each_kind (run each_kind (replicate 2 (queue_on_1 1))) (queue_on_1 1) Reply.Already 3 3 (run each_kind (replicate 5 (queue_on_1 1))) }
-    ensures disable { (after : State) → HasRepeated each_kind (run each_kind (disable_it 1 ∷ [])) (disable_it 1) Reply.NotPending 1 1 after → ⊥ }
+    ensures disable { HasRepeated each_kind (run each_kind (disable_it 1 ∷ [])) (disable_it 1) Reply.NotPending 1 1 (run each_kind (replicate 2 (disable_it 1))) }
+    ensures counts { HasRepeated each_kind (run each_kind (disable_it 1 ∷ [])) (disable_it 1) Reply.NotPending 1 1 (run each_kind (disable_it 1 ∷ [])) → ⊥ }
+    ensures tick { (after : State) → HasRepeated each_kind (run each_kind []) Instr.Tick Reply.Done 1 1 after → ⊥ }
+{}
+
+/// A work on a timer, under stamp 0, is set at 1 on one of 7 ticks, under stamp 1; and so three times more, under stamps 2, 3 and 4. Six steps
+/// are spent: a delay, a tick and four such.
+pub fn a_timer_is_set_again_and_again()
+    ensures again { HasRepeated each_kind (run each_kind (b_is_set 1)) (mod_on_1 1 7) Reply.Changed 3 3 (run each_kind (b_is_set 4)) }
+    ensures first { pending_at (run each_kind (b_is_set 1)) 1 ≡ Some (record { born = 1; stamp = 1; place = Place.Timer 8 1 }) }
+    ensures last { pending_at (run each_kind (b_is_set 4)) 1 ≡ Some (record { born = 4; stamp = 4; place = Place.Timer 8 1 }) }
+    ensures next { (run each_kind (b_is_set 4)).next ≡ 5 }
+    ensures spent { (run each_kind (b_is_set 4)).spent ≡ 6 }
 {}

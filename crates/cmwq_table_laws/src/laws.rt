@@ -4,10 +4,11 @@
 ghost use Rattle.cmwq_table.specs.Laws.{AtEveryInstruction};
 ghost use Rattle.cmwq_table_laws.specs.Depths.{DisablesOnce, EnablesOnce, LeavesDepths};
 ghost use Rattle.cmwq_table_laws.specs.Pools.{BodiesCancel, BodiesPlaceAtOnce, BodiesPlaceInPool, BodiesSetTimers, FiresToPool, IsPlacedByFlags, PlacesInPool};
-ghost use Rattle.cmwq_table_laws.specs.Repeating.{GoesOneWay, RepeatsAlike};
+ghost use Rattle.cmwq_table_laws.specs.Repeating.{GoesOneWay, LeavesAll, RepeatsAlike, RepeatsInPlace, SetsOneTimer};
 ghost use Rattle.cmwq_table.specs.State.{State};
 ghost use Rattle.cmwq_types.specs.Contents.{ScenarioContents};
 ghost use Rattle.cmwq_types.specs.declared.instr.Instr.{Instr};
+ghost use Rattle.cmwq_types.specs.declared.instr.WorkId.{WorkId};
 ghost use Rattle.std.specs.Prelude.{ℕ};
 
 /// Each disable that is accepted adds one to the depth of its work, and each enable takes one off, be the work idle, pending or running,
@@ -55,8 +56,19 @@ pub fn machines_go_one_way()
     ensures { (S : ScenarioContents) (s : State) (most : ℕ) → GoesOneWay S s most }
 {}
 
-/// An instruction that comes out the same again changes nothing but what is spent, and has the same reply each time.
-#[tactic(auto, using(crate::proofs::RepeatingLemmas::repeats_alike))]
+/// An instruction that comes out the same again, while no time passes, has the same reply each time. Where that tells that nothing was to
+/// do, nothing changes but what is spent: it was refused, the work was pending already, what was to be cancelled wasn't, it is a question, or
+/// what it goes on for has come.
+#[tactic(auto, using(crate::proofs::RepeatingLemmas::repeats_alike, crate::proofs::LeavingLemmas::leaves_all, crate::proofs::RepeatingLemmas::repeats_in_place))]
 pub fn what_repeats_is_alike()
-    ensures { (S : ScenarioContents) (s : State) (i : Instr) → RepeatsAlike S s i }
+    ensures alike { (S : ScenarioContents) (s : State) (i : Instr) → RepeatsAlike S s i }
+    ensures once { (S : ScenarioContents) (s : State) (i : Instr) → LeavesAll S s i }
+    ensures in_place { (S : ScenarioContents) (s : State) (i : Instr) → RepeatsInPlace S s i }
+{}
+
+/// A work on a timer that is set on another one, again and again at one time, is born as often, and the last birth is left: the timer is that
+/// of the last, and each has taken a step and a stamp. Nothing else changes.
+#[tactic(auto, using(crate::proofs::RepeatingLemmas::sets_one_timer))]
+pub fn a_timer_is_set_by_the_last_mod()
+    ensures { (S : ScenarioContents) (s : State) (w : WorkId) (cpu ticks : ℕ) → SetsOneTimer S s w cpu ticks }
 {}

@@ -1,4 +1,4 @@
-use Rattle.std.proofs.Common.{◌≡◌, ℕ, ◌+◌, ◌<◌, [], true, arith, refl, below_more, below_none}
+use Rattle.std.proofs.Common.{◌≡◌, ℕ, [], true, arith, refl, below_more, below_none}
 use Rattle.cmwq_types.specs.declared.instr.Instr.TheVariants.{Next}
 use Rattle.cmwq_table.specs.Events.{is_silent}
 use Rattle.cmwq_table.specs.Repeats.{reply_behind}

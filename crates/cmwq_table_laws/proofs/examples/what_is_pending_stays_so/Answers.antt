@@ -1,4 +1,4 @@
-use Rattle.std.proofs.Common.{◌≡◌, ℕ, ◌+◌, ◌<◌, ◌≤◌, arith, refl, below_more, below_none, replicate}
+use Rattle.std.proofs.Common.{◌≡◌, ℕ, arith, refl, below_more, below_none, replicate}
 use Rattle.cmwq_types.specs.declared.reply.Reply.TheVariants.{Already}
 use Rattle.cmwq_table.specs.Repeats.{after_times, reply_behind}
 use Rattle.cmwq_table.specs.State.{State}
@@ -10,11 +10,11 @@ pub returns-clause-again : goal.returns-clause-again
 unfolding table
 returns-clause-again c =
     let s : State = run each_kind (replicate 2 (queue_on_1 1)) in
-    let alike : ℕ → Type 0 = λ k. after_times each_kind s (queue_on_1 1) k ≡ record s { spent = (after_times each_kind s (queue_on_1 1) k).spent } in
+    let still : ℕ → Type 0 = λ k. (after_times each_kind s (queue_on_1 1) k).time ≡ s.time in
     let told : ℕ → Type 0 = λ k. reply_behind each_kind s (queue_on_1 1) k ≡ Already in
     record {
       few = (omega arith);
       state = refl;
-      same = λ times within. below_more alike 3 (below_more alike 2 (below_more alike 1 (below_more alike 0 (below_none alike) refl) refl) refl) refl times (omega arith);
+      time = λ times within. below_more still 3 (below_more still 2 (below_more still 1 (below_more still 0 (below_none still) refl) refl) refl) refl times (omega arith);
       replies = λ earlier below. below_more told 2 (below_more told 1 (below_more told 0 (below_none told) refl) refl) refl earlier below;
     }

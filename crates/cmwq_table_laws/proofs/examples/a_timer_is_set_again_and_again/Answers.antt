@@ -1,0 +1,20 @@
+use Rattle.std.proofs.Common.{◌≡◌, ℕ, arith, refl, below_more, below_none}
+use Rattle.cmwq_types.specs.declared.reply.Reply.TheVariants.{Changed}
+use Rattle.cmwq_table.specs.Repeats.{after_times, reply_behind}
+use Rattle.cmwq_table.specs.State.{State}
+use Rattle.cmwq_table.specs.Table.{run, table}
+use Rattle.cmwq_table_laws.specs.Examples.{b_is_set, each_kind, mod_on_1}
+use Rattle.cmwq_table_laws.proofs.examples.a_timer_is_set_again_and_again.Goals as goal
+
+pub returns-clause-again : goal.returns-clause-again
+unfolding table
+returns-clause-again c =
+    let s : State = run each_kind (b_is_set 1) in
+    let still : ℕ → Type 0 = λ k. (after_times each_kind s (mod_on_1 1 7) k).time ≡ s.time in
+    let told : ℕ → Type 0 = λ k. reply_behind each_kind s (mod_on_1 1 7) k ≡ Changed in
+    record {
+      few = (omega arith);
+      state = refl;
+      time = λ times within. below_more still 3 (below_more still 2 (below_more still 1 (below_more still 0 (below_none still) refl) refl) refl) refl times (omega arith);
+      replies = λ earlier below. below_more told 2 (below_more told 1 (below_more told 0 (below_none told) refl) refl) refl earlier below;
+    }
