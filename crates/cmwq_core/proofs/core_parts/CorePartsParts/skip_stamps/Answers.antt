@@ -1,4 +1,4 @@
-use Rattle.std.proofs.Common.{◌+◌, ◌≤◌, arith}
+use Rattle.std.proofs.Common.{◌+◌, arith}
 use Rattle.std.specs.Vec.{vec_capacity}
 use Rattle.cmwq_core.proofs.LayoutLemmas.{laid_later}
 use Rattle.cmwq_core.proofs.core_parts.CorePartsParts.skip_stamps.Goals as goal
