@@ -106,7 +106,8 @@ impl QueuedWorks {
         requires work { w < length self.now.scenario.works }
         ensures { result ≡ pending_at self.now.pending w }
     {
-        self.all()[w]
+        let pending = &self.pending;
+        pending[w]
     }
 
     /// All works, by number.

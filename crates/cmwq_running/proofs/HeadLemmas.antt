@@ -1,20 +1,21 @@
 -- What a change of one work leaves of the heads of pools.
-use Rattle.std.proofs.Common.{◌≡◌, ◌≢◌, ◌⊎◌, ℕ, ◌+◌, ◌<◌, Bool, true, false, ◌&&◌, ◌||◌, ◌==◌, List, length, set, Option, Some, None, IfSome, arith, refl, sym, ap, subst, ◌∙◌, inl, inr}
+use Rattle.std.proofs.Common.{◌≡◌, ◌≢◌, ◌⊎◌, ℕ, zero, suc, ◌+◌, ◌<◌, Bool, true, false, ◌&&◌, ◌||◌, ◌==◌, List, length, replicate, set, Option, Some, None, IfSome, arith, refl, sym, ap, subst, ◌∙◌, inl, inr}
 use Rattle.std.specs.Prelude.{is_none, nat_lt}
 use Rattle.std.proofs.lemmas.Bool.{cases_eq}
 use Rattle.std.proofs.lemmas.Bool.Decides.{nat_tests}
-use Rattle.std.proofs.lemmas.List.{get_or-set_same, get_or-set_other}
+use Rattle.std.proofs.lemmas.List.{get_or-set_same, get_or-set_other, length-replicate}
 use Rattle.cmwq_types.specs.Contents.{ScenarioContents}
 use Rattle.cmwq_types.specs.First.{by_least, IsFirst}
 use Rattle.cmwq_types.specs.Scenario.{is_high, is_unbound}
 use Rattle.cmwq_types.proofs.FirstLemmas.{by_least-order}
 use Rattle.cmwq_table.specs.Counts.{is_some_work}
 use Rattle.cmwq_phased.specs.PhasedContents.{HaveOwnStamps, PhasedContents}
+use Rattle.cmwq_phases.specs.Phases.{IsTimely}
 use Rattle.cmwq_phases.specs.Runs.{is_awake, run_at, run_stamp, with_run}
 use Rattle.cmwq_phases.specs.declared.run.Phase.{Phase}
 use Rattle.cmwq_phases.specs.declared.run.Phase.TheVariants.{Ready, Held, Burning, Asleep, Slept}
 use Rattle.cmwq_phases.specs.declared.run.Run.{Run}
-use Rattle.cmwq_running.specs.Heads.{ComesLast, GoIn, HaveHeads, IfBeside, IsBeside, IsGoing, IsHeading, IsStill, first_awake, may_burn}
+use Rattle.cmwq_running.specs.Heads.{AreKept, ComesLast, GoIn, HaveHeads, IfBeside, IsBeside, IsGoing, IsHeading, IsStill, first_awake, may_burn}
 use Rattle.cmwq_running.proofs.AlikeLemmas.{first_alike, first_is, first_of, none_alike}
 
 -- the runnable of a pool
@@ -287,3 +288,24 @@ beside_ran S o was pool at beside = subst (λ (o : Option Run). IfBeside S o poo
 
 pub beside_none : (S : ScenarioContents) (o : Option Run) (high pool : ℕ) → o ≡ None → IfBeside S o pool → IsBeside S high pool
 beside_none S o high pool none beside = absurd (subst (λ (o : Option Run). IfBeside S o pool) none beside)
+
+-- Where none runs.
+
+none_at : (n w : ℕ) → run_at (replicate n None) w ≡ None
+none_at zero w = refl
+none_at (suc n) zero = refl
+none_at (suc n) (suc w) = none_at n w
+
+pub none_kept : (works : PhasedContents) → works.runs ≡ replicate (length works.scenario.works) None → AreKept 0 works
+none_kept works idle = record {
+  early = (omega arith);
+  timely = λ w. subst (λ (o : Option Run). IfSome o (λ r. IsTimely 0 r.phase)) (sym (none w)) tt;
+  headed = record {
+    long = ap length idle ∙ length-replicate {A = Option Run} (length works.scenario.works) None;
+    heads = λ w. subst (λ (o : Option Run). IfSome o (λ r. IsHeading (is_unbound works.scenario r.pool) (is_some_work (first_awake works.scenario works.runs r.pool) w) r.phase)) (sym (none w)) tt;
+    going = λ pool w. subst (λ (o : Option Run). IfSome o (λ r. r.pool ≡ pool → IsGoing (may_burn works.scenario works.runs pool) r.phase)) (sym (none w)) tt;
+  };
+}
+  where
+    none : (w : ℕ) → run_at works.runs w ≡ None
+    none w = ap (λ (rs : List (Option Run)). run_at rs w) idle ∙ none_at (length works.scenario.works) w
