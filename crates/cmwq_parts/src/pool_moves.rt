@@ -1,16 +1,18 @@
 //! The moves of a worker pool: which one is next, and what each does.
 ghost use Rattle.cmwq_parts.specs.FoundMoves.{IsFirstMove, IsFound, if_found, move_of};
+ghost use Rattle.cmwq_parts.specs.PoolSets.{has_pool};
 ghost use Rattle.cmwq_table.specs.Counts.{first_due, first_listed, first_rescued, free_worker, ready_head};
 ghost use Rattle.cmwq_table.specs.Moves.{advance, cancel_from_body, carry_out, come_to_end, delay_from_body, finish, first_moving, mod_from_body, moved, moved_work, next_move, onward, queue_from_body, rescued, start_first, start_move, started};
 ghost use Rattle.cmwq_table.specs.Ready.{Takes};
 ghost use Rattle.cmwq_table.specs.State.{is_disabled, pending_at, running_at};
-ghost use Rattle.cmwq_types.specs.Scenario.{op_at};
+ghost use Rattle.cmwq_types.specs.Scenario.{op_at, pool_count};
 ghost use Rattle.cmwq_types.specs.Setting.{IsSetting};
 ghost use Rattle.cmwq_types.specs.declared.limits.TheConstants.{MAX_OPS};
-ghost use Rattle.std.specs.Prelude.{◌≡◌, ◌&&◌, ◌<◌, ◌^◌, IfSome, None, Some, is_none, length};
+ghost use Rattle.std.specs.Prelude.{◌≡◌, ◌&&◌, ◌<◌, ◌≤◌, ◌^◌, IfSome, None, Some, is_none, is_some, length, true, ℕ};
 
 use crate::going::Going;
 use crate::parts::Parts;
+use crate::pool_set::PoolSet;
 use cmwq_table::{Happened, Running};
 use cmwq_types::{Event, Mode, Op, WorkId};
 
@@ -77,8 +79,8 @@ impl<P: Parts> Going<P> {
         Some(Found::Start(WorkId(w as u16), worker))
     }
 
-    /// The least pool that has a move, and its move. Of the pools that may have one it asks each in turn, and lets the parts know which
-    /// have none.
+    /// The least pool that has a move, and its move. It lets the parts know which of those that may have one have none. The first of these is asked
+    /// apart from the others: mostly it has a move, and what a search would prepare for its turns isn't worth while.
     #[inline(always)]
     pub fn first_move(&mut self) -> Option<(u8, Found)>
         ensures same { self.new ≡ self.old }
@@ -87,7 +89,28 @@ impl<P: Parts> Going<P> {
     {
         // No scenario has as many pools as a set has room for.
         let _ = self.parts.scenario();
-        let mut left = self.parts.may_move();
+        let pools = self.parts.may_move();
+        let Some(pool) = pools.first() else {
+            return None;
+        };
+        if let Some(next) = self.next_move(pool) {
+            return Some((pool, next));
+        }
+        self.parts.settle(pool);
+        self.first_move_among(pools.without(pool))
+    }
+
+    /// The same where only these pools may have a move. It asks each in turn.
+    #[inline(never)]
+    fn first_move_among(&mut self, pools: PoolSet) -> Option<(u8, Found)>
+        requires few { pool_count self.old.scenario ≤ 64 }
+        requires covered { (pool : ℕ) → pool < pool_count self.old.scenario → is_some (next_move self.old.scenario self.old.state pool) ≡ true → has_pool pools pool ≡ true }
+        requires in_range { (pool : ℕ) → pool < 64 → has_pool pools pool ≡ true → pool < pool_count self.old.scenario }
+        ensures same { self.new ≡ self.old }
+        ensures first { IsFirstMove self.old.scenario self.old.state result }
+        ensures fits { IfSome result (λ first. IsFound self.old.scenario self.old.state first.0 first.1) }
+    {
+        let mut left = pools;
         while let Some(pool) = left.first() {
             if let Some(next) = self.next_move(pool) {
                 return Some((pool, next));
