@@ -269,7 +269,7 @@ fn step<P: Parts>(going: &mut Going<P>, pool: u8) -> Result<Reply, Refusal>
     ensures { Performs going.old (instr.Step pool) going.new result }
 {
     match going.next_move(pool) {
-        Some(next) => Ok(going.make_move(pool, next).reply()),
+        Some(next) => Ok(going.make_move::<true>(pool, next).reply()),
         None => Err(Refusal::NothingToDo),
     }
 }
@@ -324,7 +324,7 @@ fn next<P: Parts>(going: &mut Going<P>) -> Option<Happened>
     ensures state { going.new ≡ record going.old { state = (next going.old.scenario going.old.state (first_due going.old.scenario going.old.state)).0 } }
     ensures happened { next_reply result ≡ (next going.old.scenario going.old.state (first_due going.old.scenario going.old.state)).1 }
 {
-    let happened = happen(going);
+    let happened = happen::<P, true>(going);
     if happened.is_none() {
         going.parts.pass(1);
     }
@@ -333,7 +333,7 @@ fn next<P: Parts>(going: &mut Going<P>) -> Option<Happened>
 
 /// Fires a due timer, else lets the least pool that has a move make it. Answers what happened: nothing where the machine is settled.
 #[inline(always)]
-pub(crate) fn happen<P: Parts>(going: &mut Going<P>) -> Option<Happened>
+pub(crate) fn happen<P: Parts, const ALONE: bool>(going: &mut Going<P>) -> Option<Happened>
     requires time { going.old.state.time < 2 ^ 60 }
     requires stamps { going.old.state.next < 2 ^ 60 }
     ensures state { IfSome result (λ _. going.new ≡ record going.old { state = (next going.old.scenario going.old.state (first_due going.old.scenario going.old.state)).0 }) }
@@ -345,7 +345,7 @@ pub(crate) fn happen<P: Parts>(going: &mut Going<P>) -> Option<Happened>
         return Some(fire_due(going, w));
     }
     let (pool, next) = going.first_move()?;
-    Some(going.make_move(pool, next))
+    Some(going.make_move::<ALONE>(pool, next))
 }
 
 /// Whether what the flush of this number waits for is done.

@@ -61,7 +61,7 @@ fn advance<P: Parts>(going: &mut Going<P>, most: u32) -> (u32, Option<Happened>)
     ensures advanced { HasAdvanced going.old most result.0 going.new (next_reply result.1) }
     ensures spent { going.new.state.spent ≡ going.old.state.spent + result.0 }
 {
-    match happen(going) {
+    match happen::<P, false>(going) {
         Some(happened) => {
             spend(going, 1);
             (1, Some(happened))

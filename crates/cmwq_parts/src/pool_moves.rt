@@ -145,8 +145,11 @@ impl<P: Parts> Going<P> {
     }
 
     /// Makes the pool's move, and tells what it did.
+    ///
+    /// It does the same whether the move is made `ALONE` or not: where one move follows another it has one caller, and so the compiler writes it
+    /// out there, however long it is.
     #[inline(always)]
-    pub fn make_move(&mut self, pool: u8, next: Found) -> Happened
+    pub fn make_move<const ALONE: bool>(&mut self, pool: u8, next: Found) -> Happened
         requires fits { IsFound self.old.scenario self.old.state pool next }
         requires time { self.old.state.time < 2 ^ 60 }
         requires stamps { self.old.state.next < 2 ^ 60 }
@@ -156,7 +159,7 @@ impl<P: Parts> Going<P> {
     {
         match next {
             Found::Advance(work) => {
-                let event = self.advance(pool, work.0 as usize);
+                let event = self.advance::<ALONE>(pool, work.0 as usize);
                 Happened { work, event }
             }
             Found::Wake(work) => {
@@ -185,7 +188,7 @@ impl<P: Parts> Going<P> {
     /// The ready head of the pool carries out the operation that it has come to.
     #[inline(always)]
     #[tactic(auto, using(cmwq_table::proofs::HeadLemmas::heads))]
-    fn advance(&mut self, pool: u8, w: usize) -> Event
+    fn advance<const ALONE: bool>(&mut self, pool: u8, w: usize) -> Event
         requires work { w < length self.old.scenario.works }
         requires head { ready_head self.old.scenario self.old.state pool ≡ Some w }
         requires time { self.old.state.time < 2 ^ 60 }
@@ -196,7 +199,7 @@ impl<P: Parts> Going<P> {
         match self.parts.running(w) {
             Some(r) => {
                 let (left, mode) = (0, Mode::Runnable);
-                self.carry_out(w, Running { left, mode, ..r })
+                self.carry_out::<ALONE>(w, Running { left, mode, ..r })
             }
             None => Event::Finishes,
         }
@@ -204,7 +207,7 @@ impl<P: Parts> Going<P> {
 
     /// The running work carries out the operation that it has come to.
     #[inline(always)]
-    fn carry_out(&mut self, w: usize, r: Running) -> Event
+    fn carry_out<const ALONE: bool>(&mut self, w: usize, r: Running) -> Event
         requires work { w < length self.old.scenario.works }
         requires running { running_at self.old.state w ≡ Some r }
         requires head { ready_head self.old.scenario self.old.state r.pool ≡ Some w }
