@@ -230,7 +230,7 @@ impl<P: Parts> Going<P> {
                 self.parts.go_on(w, r, r.left);
                 self.queue_from_body(other, cpu)
             }
-            Op::Finish => self.finish(w, r),
+            Op::Finish => self.finish::<ALONE>(w, r),
             Op::Delay(other, ticks) => {
                 self.go_past(w);
                 let cpu = self.parts.scenario().local_cpu(r.pool);
@@ -367,7 +367,7 @@ impl<P: Parts> Going<P> {
 
     /// The running work comes to the end of its body, and what it leaves is filled.
     #[inline(always)]
-    fn finish(&mut self, w: usize, r: Running) -> Event
+    fn finish<const ALONE: bool>(&mut self, w: usize, r: Running) -> Event
         requires work { w < length self.old.scenario.works }
         requires running { running_at self.old.state w ≡ Some r }
         requires head { ready_head self.old.scenario self.old.state r.pool ≡ Some w }
