@@ -250,10 +250,10 @@ grown_where : (q : QueuedContents) (r : RunningContents) (k : WorkersContents) (
     → is_some (next_move q.scenario (moving_state q r k pressed) pool) ≡ true → IsGrown pools (Some pool) pools
 grown_where q r k pressed pools pool covered moves other small out = (
   λ same. absurd (
-    let still : is_some (next_move q.scenario (moving_state q r k pressed) pool) ≡ false =
-    ap is_some (subst (λ (p : ℕ). next_move q.scenario (moving_state q r k pressed) p ≡ None) same (covered other small out))
-    in
-    cc),
+      let still : is_some (next_move q.scenario (moving_state q r k pressed) pool) ≡ false =
+      ap is_some (subst (λ (p : ℕ). next_move q.scenario (moving_state q r k pressed) p ≡ None) same (covered other small out))
+      in
+      cc),
   out,
 )
 
