@@ -1,5 +1,6 @@
 -- The lines of an instruction that is issued several times.
 use Rattle.std.proofs.Common.{◌≡◌, ℕ, zero, suc, ◌+◌, ◌-◌, ◌<◌, ◌≤◌, List, [], ◌∷◌, ◌++◌, Bool, true, Option, refl, sym, ap, ◌∙◌, subst, arith, append_assoc, replicate}
+use Rattle.std.specs.Borrow.{Bor}
 use Rattle.cmwq_types.specs.Contents.{ScenarioContents}
 use Rattle.cmwq_types.specs.declared.instr.Instr.{Instr}
 use Rattle.cmwq_types.specs.declared.instr.Instr.TheVariants.{Next}
@@ -10,15 +11,21 @@ use Rattle.cmwq_table.specs.Repeats.{HasGone, HasRepeated, after_times, reply_be
 use Rattle.cmwq_table.specs.State.{State}
 use Rattle.cmwq_table.specs.Table.{after_all, table}
 use Rattle.cmwq_table.proofs.TimesLemmas.{after_times-last}
-use Rattle.cmwq_streams.specs.Blocks.{Sends, SendsFront, kept, sink}
+use Rattle.cmwq_streams.specs.Blocks.{Sends, SendsFront, SharesSink, kept, sink}
+use Rattle.cmwq_streams.specs.Sending.{HasSent}
+use Rattle.cmwq_streams.specs.declared.block_writer.BlockWriter.{BlockWriter}
 use Rattle.cmwq_streams.specs.declared.error.PlayError.{PlayError}
-use Rattle.cmwq_streams.proofs.CallerLemmas.{front_more}
+use Rattle.cmwq_streams.proofs.CallerLemmas.{appends_none, front_more}
 use Rattle.cmwq_play.specs.Repeating.{HasTold}
 use Rattle.cmwq_lines.specs.Putting.{repeated}
-use Rattle.cmwq_play.specs.Session.{Issued, Stopped}
+use Rattle.cmwq_play.specs.Session.{CanIssue, Issued, Stopped}
 use Rattle.cmwq_play.specs.Telling.{kept_from}
 use Rattle.cmwq_play.specs.declared.replies.Replies.{Replies}
 use Rattle.cmwq_play.specs.declared.session.Session.{Session}
+
+-- the teller of replies keeps nothing
+abbrev pub replies : Replies
+replies = record {}
 
 -- what the teller of replies tells and keeps
 abbrev pub telling : Replies → ScenarioContents → State → Instr → List ℕ
@@ -145,3 +152,32 @@ module _ {M W : Type 0} (loaded : M → ScenarioContents) (state : M → State) 
         write = stopped.write;
         why = stopped.why;
       }
+
+-- A session whose machine is this and that only kept a text back has written it.
+module _ {M W : Type 0} (loaded : M → ScenarioContents) (state : M → State) (contents : W → Option (List ℕ)) (failed : W → Bool) where
+  pub keeps-text : (old new : Session M W) (text : List ℕ) → CanIssue loaded state contents failed old → new.scenario ≡ old.scenario → new.machine ≡ old.machine → new.replies ≡ old.replies
+      → SharesSink old.lines new.lines → sink new.lines ≡ sink old.lines → kept new.lines ≡ kept old.lines ++ text → Issued loaded state contents failed old new (state old.machine) text
+  keeps-text old new text ready scenario machine replies shares same line = record {
+    ready = record {
+      has_scenario = ap loaded machine ∙ ready.has_scenario ∙ ap (λ (S : Bor ScenarioContents). S.now) (sym scenario);
+      has_lines = replies ∙ ready.has_lines ∙ ap (λ (S : Bor ScenarioContents). S.now) (sym scenario);
+      is_sound = ap failed same ∙ ready.is_sound;
+    };
+    scenario = ap (λ (S : Bor ScenarioContents). S.now) scenario;
+    same = shares;
+    reached = ap state machine;
+    sent = subst (λ (w : W). HasSent (contents (sink old.lines)) (contents w) (kept new.lines) (kept old.lines ++ text)) (sym same) ([], appends_none (contents (sink old.lines)), line);
+  }
+
+  -- where nothing was kept back before it wrote
+  pub same-before : (mid : Session M W) (replies : ScenarioContents) (lines : BlockWriter W) (new : Session M W) (to : State) (text : List ℕ) → replies ≡ mid.replies → lines ≡ mid.lines
+      → Issued loaded state contents failed (record mid { replies = replies; lines = lines }) new to text → Issued loaded state contents failed mid new to text
+  same-before mid replies lines new to text one other issued =
+      subst (λ (L : BlockWriter W). Issued loaded state contents failed (record mid { lines = L }) new to text) other
+      (subst (λ (R : ScenarioContents). Issued loaded state contents failed (record mid { replies = R; lines = lines }) new to text) one issued)
+
+  pub same-stopped : (mid : Session M W) (replies : ScenarioContents) (lines : BlockWriter W) (new : Session M W) (text : List ℕ) (error : PlayError) → replies ≡ mid.replies → lines ≡ mid.lines
+      → Stopped loaded state contents failed (record mid { replies = replies; lines = lines }) new text error → Stopped loaded state contents failed mid new text error
+  same-stopped mid replies lines new text error one other stopped =
+      subst (λ (L : BlockWriter W). Stopped loaded state contents failed (record mid { lines = L }) new text error) other
+      (subst (λ (R : ScenarioContents). Stopped loaded state contents failed (record mid { replies = R; lines = lines }) new text error) one stopped)

@@ -3,7 +3,7 @@ ghost use Rattle.cmwq_lines.specs.Putting.{repeated};
 ghost use Rattle.cmwq_play.specs.Repeating.{HasTold};
 ghost use Rattle.cmwq_play.specs.Session.{CanIssue, Issues, Stopped};
 ghost use Rattle.cmwq_table.specs.Events.{events_from, reply_line, told};
-ghost use Rattle.cmwq_table.specs.Repeats.{reply_of};
+ghost use Rattle.cmwq_table.specs.Repeats.{after_times, reply_of};
 ghost use Rattle.cmwq_table.specs.Table.{table};
 ghost use Rattle.cmwq_types.specs.declared.instr.Instr.TheVariants as instr;
 ghost use Rattle.std.specs.Prelude.{◌≡◌, ◌<◌, IfErr, IfOk, replicate, ⊤};
@@ -46,60 +46,52 @@ impl Teller for Replies {
         instr: Instr,
         times: u32,
     ) -> Result<(), PlayError> {
-        let mut left = times;
-        while left > 0 {
-            left -= session.issue_some(instr, left)?;
+        match instr {
+            Instr::Next => session.go_times(times),
+            _ => session.repeat_times(instr, times),
         }
-        Ok(())
     }
 }
 
 impl<M: Machine, W: Sink> Session<'_, '_, M, W> {
-    /// Issues the instruction at least once and at most so often, and writes the lines of the replies. Answers how often.
+    /// Issues `next` so often, and writes the lines of the replies that have one.
     #[inline(always)]
-    fn issue_some(&mut self, instr: Instr, most: u32) -> Result<u32, PlayError>
+    fn go_times(&mut self, times: u32) -> Result<(), PlayError>
         requires ready { CanIssue M.loaded M.state W.contents W.failed self.old }
-        requires some { 0 < most }
-        ensures ok { IfOk result (HasTold M.loaded M.state W.contents W.failed self.old self.new instr most) }
-        ensures err { IfErr result (Stopped M.loaded M.state W.contents W.failed self.old self.new (events_from self.old.scenario.now (M.state self.old.machine) (replicate most instr))) }
+        ensures { Issues M.loaded M.state W.contents W.failed self.old self.new
+            (after_times self.old.scenario.now (M.state self.old.machine) instr.Next times)
+            (events_from self.old.scenario.now (M.state self.old.machine) (replicate times instr.Next)) result }
     {
-        match instr {
-            Instr::Next => self.go(most),
-            _ => self.repeat(instr, most),
-        }
-    }
-
-    /// Issues `next` up to the first reply that has a line, at least once and at most so often, and writes that line. Answers how often.
-    #[inline(always)]
-    fn go(&mut self, most: u32) -> Result<u32, PlayError>
-        requires ready { CanIssue M.loaded M.state W.contents W.failed self.old }
-        requires some { 0 < most }
-        ensures ok { IfOk result (HasTold M.loaded M.state W.contents W.failed self.old self.new instr.Next most) }
-        ensures err { IfErr result (Stopped M.loaded M.state W.contents W.failed self.old self.new (events_from self.old.scenario.now (M.state self.old.machine) (replicate most instr.Next))) }
-    {
-        let (count, went) = self.machine.go(most);
-        self.tell_went(went)?;
-        Ok(count)
-    }
-
-    /// Writes the line, at the machine's time, of how a `next` came out, if it has one.
-    #[inline(always)]
-    fn tell_went(&mut self, went: Went) -> Result<(), PlayError>
-        requires ready { CanIssue M.loaded M.state W.contents W.failed self.old }
-        ensures { Issues M.loaded M.state W.contents W.failed self.old self.new (M.state self.old.machine)
-            (reply_line self.old.scenario.now (M.state self.old.machine).time instr.Next (reply_of went)) result }
-    {
-        match went {
-            Went::Happened(happened) => {
-                let time = self.machine.now();
-                if self.lines.keep_event(&mut self.replies, time, happened) {
-                    return Ok(());
+        let mut left = times;
+        while left > 0 {
+            let (count, went) = self.machine.go(left);
+            match went {
+                Went::Happened(happened) => {
+                    let time = self.machine.now();
+                    if !self.lines.keep_event(&mut self.replies, time, happened) {
+                        self.tell_event(happened.work, happened.event)?;
+                    }
                 }
-                self.tell_event(happened.work, happened.event)
+                Went::Ticked => {}
+                Went::Spent => self.tell_spent()?,
             }
-            Went::Ticked => Ok(()),
-            Went::Spent => self.tell_spent(),
+            left -= count;
         }
+        Ok(())
+    }
+
+    /// Issues the instruction so often, as often at once as it is known to come out the same, and writes the lines of the replies.
+    fn repeat_times(&mut self, instr: Instr, times: u32) -> Result<(), PlayError>
+        requires ready { CanIssue M.loaded M.state W.contents W.failed self.old }
+        ensures { Issues M.loaded M.state W.contents W.failed self.old self.new
+            (after_times self.old.scenario.now (M.state self.old.machine) instr times)
+            (events_from self.old.scenario.now (M.state self.old.machine) (replicate times instr)) result }
+    {
+        let mut left = times;
+        while left > 0 {
+            left -= self.repeat(instr, left)?;
+        }
+        Ok(())
     }
 
     /// Writes the line of what happened to a work, at the machine's time, and sends what is kept back where that is more than a block.

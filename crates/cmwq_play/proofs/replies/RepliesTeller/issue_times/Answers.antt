@@ -1,39 +1,38 @@
-use Rattle.std.proofs.Common.{◌-◌, [], List, ℕ, refl, sym, subst, append-nil, replicate}
-use Rattle.std.proofs.lemmas.Result.{err_from_is_err_and}
+use Rattle.std.proofs.Common.{List, Ok, Err, Result, ℕ, sym, subst, replicate}
+use Rattle.std.specs.Prelude.{OnOk}
+use Rattle.cmwq_types.specs.declared.instr.Instr.{Instr}
+use Rattle.cmwq_table.specs.Events.{events_from}
 use Rattle.cmwq_table.specs.Table.{after_all}
-use Rattle.cmwq_play.specs.Session.{Issued, Stopped}
-use Rattle.cmwq_play.proofs.RepeatingLemmas.{keeping, kept-same, telling}
-use Rattle.cmwq_play.proofs.RunLemmas.{replicate_rest, replies-told}
-use Rattle.cmwq_play.proofs.SessionLemmas.{begins, goes_on, stops}
+use Rattle.cmwq_streams.specs.declared.error.PlayError.{PlayError}
+use Rattle.cmwq_play.specs.Session.{Issues}
+use Rattle.cmwq_play.proofs.RepeatingLemmas.{kept-same}
+use Rattle.cmwq_play.proofs.RunLemmas.{replies-told}
 use Rattle.cmwq_play.proofs.replies.RepliesTeller.issue_times.Goals as goal
 
-pub loop-left-init : goal.loop-left-init
-loop-left-init g c = begins g.M.Reads.loaded g.M.Reads.state g.W.Write.contents g.W.Sink.failed telling keeping c.args.session.now c.args.self.now (replicate c.args.times c.args.instr) (replicate c.args.times c.args.instr) refl c.requires.ready
+where_ok : (P : Type 0) (result : Result (Unit {0}) PlayError) → P → OnOk result P
+where_ok P (Ok x) holds = holds
+where_ok P (Err error) holds = tt
 
-pub loop-left-preserved : goal.loop-left-preserved
-loop-left-preserved g c =
-    let here = c.loop-left.session in
-    let S = here.scenario.now in
-    let s = g.M.Reads.state here.machine in
-    let i = c.args.instr in
-    let left = c.loop-left.left in
-    let count = c.in_ok-left.field-0 in
-    let some = replicate count i in
-    let done = c.in_ok-left.ensures.ok in
-    goes_on g.M.Reads.loaded g.M.Reads.state g.W.Write.contents g.W.Sink.failed telling keeping c.args.session.now here c.args.self.now c.args.self.now (replicate c.args.times i) (replicate left i)
-    some (replicate (left - count) i) (replicate_rest count left i done.few) c.loop-left.invariant c.issue_some.new.self c.args.self.now
-    (subst (λ (text : List ℕ). Issued g.M.Reads.loaded g.M.Reads.state g.W.Write.contents g.W.Sink.failed here c.issue_some.new.self (after_all S s some) text) (sym (replies-told c.args.self.now S s some)) done.issued)
-    (sym (kept-same c.args.self.now S s some))
+pub returns-in-Next-clause-told : goal.returns-in-Next-clause-told
+returns-in-Next-clause-told g c =
+    let session = c.args.session.now in
+    let S = session.scenario.now in
+    let s = g.M.Reads.state session.machine in
+    let all = replicate c.args.times c.args.instr in
+    subst (λ (text : List ℕ). Issues g.M.Reads.loaded g.M.Reads.state g.W.Write.contents g.W.Sink.failed session c.go_times.new.self (after_all S s all) text c.go_times.result) (sym (replies-told c.args.self.now S s all))
+    (subst (λ (i : Instr). Issues g.M.Reads.loaded g.M.Reads.state g.W.Write.contents g.W.Sink.failed session c.go_times.new.self (after_all S s (replicate c.args.times i)) (events_from S s (replicate c.args.times i)) c.go_times.result)
+    (sym c.in-Next.is) c.go_times.ensures)
 
-pub returns-in_err-left-clause-told : goal.returns-in_err-left-clause-told
-returns-in_err-left-clause-told g c =
-    let here = c.loop-left.session in
-    let S = here.scenario.now in
-    let s = g.M.Reads.state here.machine in
-    let i = c.args.instr in
-    let left = c.loop-left.left in
-    let rest = replicate left i in
-    let p = err_from_is_err_and c.from_residual.result c.from_residual.ensures.1 in
-    rw (p.1, p.2) (stops g.M.Reads.loaded g.M.Reads.state g.W.Write.contents g.W.Sink.failed telling keeping c.args.session.now here c.args.self.now c.args.self.now (replicate c.args.times i) rest
-    rest [] (sym (append-nil rest)) c.loop-left.invariant c.issue_some.new.self c.in_err-left.field-0.0
-    (subst (λ (text : List ℕ). Stopped g.M.Reads.loaded g.M.Reads.state g.W.Write.contents g.W.Sink.failed here c.issue_some.new.self text c.in_err-left.field-0.0) (sym (replies-told c.args.self.now S s rest)) c.in_err-left.ensures.err))
+pub returns-in_default : goal.returns-in_default
+returns-in_default g c =
+    let session = c.args.session.now in
+    let S = session.scenario.now in
+    let s = g.M.Reads.state session.machine in
+    let all = replicate c.args.times c.args.instr in
+    record {
+      told =
+          subst (λ (text : List ℕ). Issues g.M.Reads.loaded g.M.Reads.state g.W.Write.contents g.W.Sink.failed session c.repeat_times.new.self (after_all S s all) text c.repeat_times.result) (sym (replies-told c.args.self.now S s all))
+          c.repeat_times.ensures;
+      keeps = where_ok _ c.repeat_times.result (sym (kept-same c.args.self.now S s all));
+      fits = where_ok _ c.repeat_times.result tt;
+    }
