@@ -30,6 +30,7 @@ pub struct CoreParts {
     running: RunningWorks,
     workers: IdleWorkers,
     moving: PoolSet,
+    pools: PoolSet,
     next: u64,
     spent: u32,
     frozen: bool,
@@ -138,8 +139,9 @@ impl Parts for CoreParts {
         Ok(CoreParts {
             queued: works.queued,
             running: works.running,
-            workers: others.workers,
             moving: PoolSet::all(),
+            pools: PoolSet::below(others.workers.made().len() as u8),
+            workers: others.workers,
             next: 0,
             spent: 0,
             frozen: false,
@@ -164,6 +166,7 @@ impl Parts for CoreParts {
             running: works.running,
             workers: others.workers,
             moving: self.moving,
+            pools: self.pools,
             next: self.next,
             spent: self.spent,
             frozen: self.frozen,
@@ -222,10 +225,10 @@ impl Parts for CoreParts {
 
     #[inline(always)]
     fn may_move(&self) -> PoolSet {
-        let pools = self.workers.made().len() as u8;
-        self.moving.common(PoolSet::below(pools))
+        self.moving.common(self.pools)
     }
 
+    #[inline(never)]
     fn settle(&mut self, pool: u8) {
         self.moving = without(self.moving, pool);
     }

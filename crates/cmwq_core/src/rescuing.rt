@@ -32,6 +32,6 @@ fn is_untaken(running: &RunningWorks, w: usize) -> bool
     requires work { w < length running.now.scenario.works }
     ensures { result ≡ is_untaken running.now.scenario running.now.running w }
 {
-    let queue = running.scenario().queue_of(w);
-    running.has_free_rescuer(queue) && running.of(w).is_none()
+    let queue = running.scenario().works[w].queue.0;
+    running.has_free_rescuer(queue) && running.work(w).is_none()
 }

@@ -28,9 +28,10 @@ pub(crate) fn exec<P: Parts>(going: &mut Going<P>, instr: Instr) -> Reply
     ensures reply { result ≡ (table going.old.scenario going.old.state instr).1 }
 {
     match instr {
-        Instr::Queue(w, cpu) => exec_one(going, Instr::Queue(w, cpu)),
-        Instr::Mod(w, cpu, ticks) => exec_one(going, Instr::Mod(w, cpu, ticks)),
-        other => exec_one(going, other),
+        Instr::Queue(w, cpu) => exec_brief(going, Instr::Queue(w, cpu)),
+        Instr::Mod(w, cpu, ticks) => exec_brief(going, Instr::Mod(w, cpu, ticks)),
+        Instr::Fire | Instr::Step(_) | Instr::Next | Instr::State(_) | Instr::Until(_) | Instr::Wait(_) | Instr::Quiet => exec_one(going, instr),
+        other => exec_brief(going, other),
     }
 }
 
@@ -65,15 +66,51 @@ pub(crate) fn spend<P: Parts>(going: &mut Going<P>, count: u32)
     going.parts.spend(count);
 }
 
-/// Carries out an instruction whose operands are right, or says what its situation is refused for. Of an until, a wait or a quiet
-/// `free` tells whether what it goes on for has come.
+
 #[inline(always)]
-fn perform<P: Parts>(going: &mut Going<P>, instr: Instr, free: bool) -> Result<Reply, Refusal>
-    requires free { free ≡ is_free going.old.scenario going.old.state instr }
-    requires operands { operands going.old.scenario going.old.state instr ≡ None }
-    requires time { going.old.state.time < 2 ^ 60 }
-    requires stamps { going.old.state.next < 2 ^ 60 }
-    ensures { Performs going.old instr going.new result }
+fn exec_brief<P: Parts>(going: &mut Going<P>, instr: Instr) -> Reply
+{
+    let free = is_free(&going.parts, instr);
+    if let Some(why) = refused_at_once(&going.parts, instr, free) {
+        return Reply::Refused(why);
+    }
+    match perform_brief(going, instr) {
+        Ok(reply) => {
+            if !free {
+                spend(going, 1);
+            }
+            reply.reply()
+        }
+        Err(why) => Reply::Refused(why),
+    }
+}
+
+/// A reply of few bytes.
+#[derive(Clone, Copy)]
+pub(crate) enum Brief {
+    Done, Queued, Already, Changed, Cancelled, NotPending, Yes, No, Flush(u16), Sync { was: bool, flush: u16 },
+}
+
+impl Brief {
+    #[inline(always)]
+    fn reply(self) -> Reply {
+        match self {
+            Brief::Done => Reply::Done,
+            Brief::Queued => Reply::Queued,
+            Brief::Already => Reply::Already,
+            Brief::Changed => Reply::Changed,
+            Brief::Cancelled => Reply::Cancelled,
+            Brief::NotPending => Reply::NotPending,
+            Brief::Yes => Reply::Yes,
+            Brief::No => Reply::No,
+            Brief::Flush(flush) => Reply::Flush(flush),
+            Brief::Sync { was, flush } => Reply::Sync { was, flush },
+        }
+    }
+}
+
+#[inline(always)]
+fn perform_brief<P: Parts>(going: &mut Going<P>, instr: Instr) -> Result<Brief, Refusal>
 {
     match instr {
         Instr::Queue(w, cpu) => queue(going, w, cpu),
@@ -87,24 +124,33 @@ fn perform<P: Parts>(going: &mut Going<P>, instr: Instr, free: bool) -> Result<R
         Instr::SetMax(q, max) => change_max(going, q, max),
         Instr::Freeze => freeze(going),
         Instr::Thaw => thaw(going),
-        Instr::Fire => fire_first(going),
-        Instr::Step(pool) => step(going, pool),
         Instr::Tick => tick_if_settled(going),
-        Instr::Next => next_reply(going),
         Instr::Ask(flush) => Ok(ask(going, flush as usize)),
         Instr::Busy => Ok(yes_or_no(going.parts.is_busy())),
-        Instr::State(w) => Ok(found(going, w.0 as usize)),
         Instr::Disable(w) => disable(going, w),
         Instr::Enable(w) => enable(going, w),
         Instr::Pressure => press(going),
         Instr::Relief => relieve(going),
+        _ => Err(Refusal::NothingToDo),
+    }
+}
+
+#[inline(always)]
+fn perform<P: Parts>(going: &mut Going<P>, instr: Instr, free: bool) -> Result<Reply, Refusal>
+{
+    match instr {
+        Instr::Fire => fire_first(going),
+        Instr::Step(pool) => step(going, pool),
+        Instr::Next => next_reply(going),
+        Instr::State(w) => Ok(found(going, w.0 as usize)),
         Instr::Until(_) | Instr::Wait(_) | Instr::Quiet => next_unless(going, free),
+        _ => Err(Refusal::NothingToDo),
     }
 }
 
 /// Queues the work on the CPU, unless it is disabled or pending.
 #[inline(always)]
-fn queue<P: Parts>(going: &mut Going<P>, w: WorkId, cpu: u8) -> Result<Reply, Refusal>
+fn queue<P: Parts>(going: &mut Going<P>, w: WorkId, cpu: u8) -> Result<Brief, Refusal>
     requires work { w.0 < length going.old.scenario.works }
     requires cpu { cpu < going.old.scenario.cpus }
     requires stamps { going.old.state.next < 2 ^ 60 }
@@ -114,15 +160,15 @@ fn queue<P: Parts>(going: &mut Going<P>, w: WorkId, cpu: u8) -> Result<Reply, Re
         return Err(Refusal::Disabled);
     }
     if going.parts.pending(w.0 as usize).is_some() {
-        return Ok(Reply::Already);
+        return Ok(Brief::Already);
     }
     going.place(w.0 as usize, cpu);
-    Ok(Reply::Queued)
+    Ok(Brief::Queued)
 }
 
 /// Queues the work on the CPU after so many ticks, unless it is disabled or pending.
 #[inline(always)]
-fn delay<P: Parts>(going: &mut Going<P>, w: WorkId, cpu: u8, ticks: u32) -> Result<Reply, Refusal>
+fn delay<P: Parts>(going: &mut Going<P>, w: WorkId, cpu: u8, ticks: u32) -> Result<Brief, Refusal>
     requires work { w.0 < length going.old.scenario.works }
     requires cpu { cpu < going.old.scenario.cpus }
     requires time { going.old.state.time < 2 ^ 60 }
@@ -133,15 +179,15 @@ fn delay<P: Parts>(going: &mut Going<P>, w: WorkId, cpu: u8, ticks: u32) -> Resu
         return Err(Refusal::Disabled);
     }
     if going.parts.pending(w.0 as usize).is_some() {
-        return Ok(Reply::Already);
+        return Ok(Brief::Already);
     }
     going.place_after(w.0 as usize, cpu, ticks);
-    Ok(Reply::Queued)
+    Ok(Brief::Queued)
 }
 
 /// The same, but a pending work is taken off first.
 #[inline(always)]
-fn modify<P: Parts>(going: &mut Going<P>, w: WorkId, cpu: u8, ticks: u32) -> Result<Reply, Refusal>
+fn modify<P: Parts>(going: &mut Going<P>, w: WorkId, cpu: u8, ticks: u32) -> Result<Brief, Refusal>
     requires work { w.0 < length going.old.scenario.works }
     requires cpu { cpu < going.old.scenario.cpus }
     requires time { going.old.state.time < 2 ^ 60 }
@@ -154,31 +200,31 @@ fn modify<P: Parts>(going: &mut Going<P>, w: WorkId, cpu: u8, ticks: u32) -> Res
     match going.parts.pending(w.0 as usize) {
         Some(p) => {
             going.replace(w.0 as usize, p, cpu, ticks);
-            Ok(Reply::Changed)
+            Ok(Brief::Changed)
         }
         None => {
             going.place_after(w.0 as usize, cpu, ticks);
-            Ok(Reply::Queued)
+            Ok(Brief::Queued)
         }
     }
 }
 
 /// Takes a pending work off.
-pub(crate) fn cancel<P: Parts>(going: &mut Going<P>, w: usize) -> Reply
+pub(crate) fn cancel<P: Parts>(going: &mut Going<P>, w: usize) -> Brief
     requires work { w < length going.old.scenario.works }
     requires stamps { going.old.state.next < 2 ^ 60 }
     ensures state { going.new ≡ record going.old { state = (cancelled going.old.scenario going.old.state w (pending_at going.old.state w)).0 } }
     ensures reply { result ≡ (cancelled going.old.scenario going.old.state w (pending_at going.old.state w)).1 }
 {
     if going.parts.pending(w).is_none() {
-        return Reply::NotPending;
+        return Brief::NotPending;
     }
     going.take_off(w);
-    Reply::Cancelled
+    Brief::Cancelled
 }
 
 /// Sets the queue's `max`, unless it is ordered.
-fn change_max<P: Parts>(going: &mut Going<P>, q: QueueId, max: u32) -> Result<Reply, Refusal>
+fn change_max<P: Parts>(going: &mut Going<P>, q: QueueId, max: u32) -> Result<Brief, Refusal>
     requires queue { q.0 < length going.old.scenario.queues }
     requires count { max ≤ MAX_MAX_ACTIVE }
     requires stamps { going.old.state.next < 2 ^ 60 }
@@ -188,22 +234,22 @@ fn change_max<P: Parts>(going: &mut Going<P>, q: QueueId, max: u32) -> Result<Re
         return Err(Refusal::Ordered);
     }
     going.set_max_active(q.0, max as u16);
-    Ok(Reply::Done)
+    Ok(Brief::Done)
 }
 
 /// Freezes, unless there is a freeze: nothing of a freezable queue is activated until the thaw.
-fn freeze<P: Parts>(going: &mut Going<P>) -> Result<Reply, Refusal>
+fn freeze<P: Parts>(going: &mut Going<P>) -> Result<Brief, Refusal>
     ensures { Performs going.old instr.Freeze going.new result }
 {
     if going.parts.is_frozen() {
         return Err(Refusal::AlreadyFrozen);
     }
     going.parts.set_frozen(true);
-    Ok(Reply::Done)
+    Ok(Brief::Done)
 }
 
 /// Thaws, if there is a freeze.
-fn thaw<P: Parts>(going: &mut Going<P>) -> Result<Reply, Refusal>
+fn thaw<P: Parts>(going: &mut Going<P>) -> Result<Brief, Refusal>
     requires { going.old.state.next < 2 ^ 60 }
     ensures { Performs going.old instr.Thaw going.new result }
 {
@@ -211,32 +257,33 @@ fn thaw<P: Parts>(going: &mut Going<P>) -> Result<Reply, Refusal>
         return Err(Refusal::NotFrozen);
     }
     going.thaw();
-    Ok(Reply::Done)
+    Ok(Brief::Done)
 }
 
 /// Brings memory pressure, unless there is some.
-fn press<P: Parts>(going: &mut Going<P>) -> Result<Reply, Refusal>
+fn press<P: Parts>(going: &mut Going<P>) -> Result<Brief, Refusal>
     ensures { Performs going.old instr.Pressure going.new result }
 {
     if going.parts.is_pressed() {
         return Err(Refusal::AlreadyPressed);
     }
     going.parts.set_pressed(true);
-    Ok(Reply::Done)
+    Ok(Brief::Done)
 }
 
 /// Ends the memory pressure, if there is some.
-fn relieve<P: Parts>(going: &mut Going<P>) -> Result<Reply, Refusal>
+fn relieve<P: Parts>(going: &mut Going<P>) -> Result<Brief, Refusal>
     ensures { Performs going.old instr.Relief going.new result }
 {
     if !going.parts.is_pressed() {
         return Err(Refusal::NotPressed);
     }
     going.parts.set_pressed(false);
-    Ok(Reply::Done)
+    Ok(Brief::Done)
 }
 
 /// Fires the timer of the work, the first one that has run out.
+#[inline(always)]
 fn fire_due<P: Parts>(going: &mut Going<P>, w: usize) -> Happened
     requires work { w < length going.old.scenario.works }
     requires few { w < MAX_WORKS }
@@ -275,7 +322,7 @@ fn step<P: Parts>(going: &mut Going<P>, pool: u8) -> Result<Reply, Refusal>
 }
 
 /// Lets a tick pass, if nothing can happen without time: no timer is due, and no pool has a move.
-fn tick_if_settled<P: Parts>(going: &mut Going<P>) -> Result<Reply, Refusal>
+fn tick_if_settled<P: Parts>(going: &mut Going<P>) -> Result<Brief, Refusal>
     requires { going.old.state.time < 2 ^ 60 }
     ensures { Performs going.old instr.Tick going.new result }
 {
@@ -286,7 +333,7 @@ fn tick_if_settled<P: Parts>(going: &mut Going<P>) -> Result<Reply, Refusal>
         Some((pool, _)) => Err(Refusal::Unsettled(Cause::Pool(pool))),
         None => {
             going.parts.pass(1);
-            Ok(Reply::Done)
+            Ok(Brief::Done)
         }
     }
 }
@@ -349,7 +396,7 @@ pub(crate) fn happen<P: Parts, const ALONE: bool>(going: &mut Going<P>) -> Optio
 }
 
 /// Whether what the flush of this number waits for is done.
-fn ask<P: Parts>(going: &mut Going<P>, flush: usize) -> Reply
+fn ask<P: Parts>(going: &mut Going<P>, flush: usize) -> Brief
     ensures same { going.new ≡ going.old }
     ensures reply { result ≡ yes_or_no (is_done going.old.scenario going.old.state (target_at going.old.state flush)) }
 {
@@ -370,8 +417,8 @@ fn found<P: Parts>(going: &Going<P>, w: usize) -> Reply
     Reply::Found(WorkState { place, run })
 }
 
-pub(crate) fn yes_or_no(holds: bool) -> Reply
+pub(crate) fn yes_or_no(holds: bool) -> Brief
     ensures { result ≡ yes_or_no holds }
 {
-    if holds { Reply::Yes } else { Reply::No }
+    if holds { Brief::Yes } else { Brief::No }
 }

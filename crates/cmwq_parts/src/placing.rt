@@ -112,7 +112,16 @@ impl<P: Parts> Going<P> {
         ensures filled { self.new ≡ record self.old { state = fill self.old.scenario queue pool self.old.state } }
         ensures takes { Takes MAX_WORKS self.old.state self.new.state }
     {
-        for _turn in 0..self.work_count() {
+        if self.fill_one(queue, pool) {
+            self.fill_more(queue, pool);
+        }
+    }
+
+    /// While the queue has room in the pool, lists its first inactive work there.
+    #[inline(never)]
+    fn fill_more(&mut self, queue: u8, pool: u8)
+    {
+        for _turn in 1..self.work_count() {
             if !self.fill_one(queue, pool) {
                 break;
             }

@@ -89,15 +89,15 @@ impl<P: Parts> Going<P> {
     {
         // No scenario has as many pools as a set has room for.
         let _ = self.parts.scenario();
-        let pools = self.parts.may_move();
-        let Some(pool) = pools.first() else {
-            return None;
-        };
-        if let Some(next) = self.next_move(pool) {
-            return Some((pool, next));
+        let mut left = self.parts.may_move();
+        while let Some(pool) = left.first() {
+            if let Some(next) = self.next_move(pool) {
+                return Some((pool, next));
+            }
+            self.parts.settle(pool);
+            left = left.without(pool);
         }
-        self.parts.settle(pool);
-        self.first_move_among(pools.without(pool))
+        None
     }
 
     /// The same where only these pools may have a move. It asks each in turn.
@@ -293,22 +293,13 @@ impl<P: Parts> Going<P> {
     }
 
     /// A body queues a work after so many ticks, unless it is disabled. A pending work stays as it is.
-    #[inline(never)]
+    #[inline(always)]
     fn delay_from_body(&mut self, other: WorkId, cpu: u8, ticks: u32) -> Event
-        requires work { other.0 < length self.old.scenario.works }
-        requires cpu { cpu < self.old.scenario.cpus }
-        requires time { self.old.state.time < 2 ^ 63 }
-        requires stamps { self.old.state.next < 2 ^ 63 }
-        ensures state { self.new ≡ record self.old { state = (delay_from_body self.old.scenario self.old.state other cpu ticks (is_disabled self.old.state other.0) (pending_at self.old.state other.0)).0 } }
-        ensures event { result ≡ (delay_from_body self.old.scenario self.old.state other cpu ticks (is_disabled self.old.state other.0) (pending_at self.old.state other.0)).1 }
     {
         if self.is_disabled(other) {
             return Event::DelaysDisabled { other, ticks };
         }
-        let already = self.parts.pending(other.0 as usize).is_some();
-        if !already {
-            self.place_after(other.0 as usize, cpu, ticks);
-        }
+        let already = self.delay_unless_pending(other.0 as usize, cpu, ticks);
         Event::Delays {
             other,
             ticks,
@@ -316,53 +307,57 @@ impl<P: Parts> Going<P> {
         }
     }
 
-    /// A body queues a work anew after so many ticks, unless it is disabled. A pending work is taken off first.
     #[inline(never)]
+    fn delay_unless_pending(&mut self, w: usize, cpu: u8, ticks: u32) -> bool {
+        let already = self.parts.pending(w).is_some();
+        if !already {
+            self.place_after(w, cpu, ticks);
+        }
+        already
+    }
+
+    /// A body queues a work anew after so many ticks, unless it is disabled. A pending work is taken off first.
+    #[inline(always)]
     fn mod_from_body(&mut self, other: WorkId, cpu: u8, ticks: u32) -> Event
-        requires work { other.0 < length self.old.scenario.works }
-        requires cpu { cpu < self.old.scenario.cpus }
-        requires time { self.old.state.time < 2 ^ 63 }
-        requires stamps { self.old.state.next < 2 ^ 62 }
-        ensures state { self.new ≡ record self.old { state = (mod_from_body self.old.scenario self.old.state other cpu ticks (is_disabled self.old.state other.0) (pending_at self.old.state other.0)).0 } }
-        ensures event { result ≡ (mod_from_body self.old.scenario self.old.state other cpu ticks (is_disabled self.old.state other.0) (pending_at self.old.state other.0)).1 }
     {
         if self.is_disabled(other) {
             return Event::ModsDisabled { other, ticks };
         }
-        let w = other.0 as usize;
+        let changed = self.place_anew(other.0 as usize, cpu, ticks);
+        Event::Mods {
+            other,
+            ticks,
+            changed,
+        }
+    }
+
+    #[inline(never)]
+    fn place_anew(&mut self, w: usize, cpu: u8, ticks: u32) -> bool {
         match self.parts.pending(w) {
             Some(p) => {
                 self.replace(w, p, cpu, ticks);
-                let changed = true;
-                Event::Mods {
-                    other,
-                    ticks,
-                    changed,
-                }
+                true
             }
             None => {
                 self.place_after(w, cpu, ticks);
-                let changed = false;
-                Event::Mods {
-                    other,
-                    ticks,
-                    changed,
-                }
+                false
             }
         }
     }
 
     /// A body takes a work off, if it is pending.
-    #[inline(never)]
+    #[inline(always)]
     fn cancel_from_body(&mut self, other: WorkId) -> Event
-        requires work { other.0 < length self.old.scenario.works }
-        requires stamps { self.old.state.next < 2 ^ 62 }
-        ensures state { self.new ≡ record self.old { state = (cancel_from_body self.old.scenario self.old.state other (pending_at self.old.state other.0)).0 } }
-        ensures event { result ≡ (cancel_from_body self.old.scenario self.old.state other (pending_at self.old.state other.0)).1 }
     {
-        let was = self.parts.pending(other.0 as usize).is_some();
-        self.take_off(other.0 as usize);
+        let was = self.take_off_pending(other.0 as usize);
         Event::Cancels { other, was }
+    }
+
+    #[inline(never)]
+    fn take_off_pending(&mut self, w: usize) -> bool {
+        let was = self.parts.pending(w).is_some();
+        self.take_off(w);
+        was
     }
 
     /// The running work comes to the end of its body, and what it leaves is filled.

@@ -113,7 +113,16 @@ fn stays_in_line(unbound: bool, was: Run, run: Run) -> bool
     requires pool { run.pool ≡ was.pool }
     ensures { IsTrue result → stands_by unbound was was.phase ≡ stands_by unbound run run.phase }
 {
-    !unbound && was.stamp == run.stamp && is_awake(was.phase) && is_awake(run.phase)
+    was.stamp == run.stamp
+        && (is_ready(was.phase) && is_ready(run.phase)
+            || !unbound && is_awake(was.phase) && is_awake(run.phase))
+}
+
+/// Whether nothing is left to burn in this phase.
+#[inline(always)]
+fn is_ready(phase: Phase) -> bool
+{
+    matches!(phase, Phase::Ready)
 }
 
 /// Takes a work out of the list in which it stands, if it does, and puts it where it is to stand, if anywhere. Where it stood in none the lists

@@ -221,7 +221,7 @@ impl PhasedWorks {
         ensures running { result ≡ running_in self.now.scenario self.now.runs queue pool }
         ensures few { result ≤ length self.now.scenario.works }
     {
-        usize::from(self.counts.running.of(class_in(queue, pool)))
+        usize::from(self.counts.running.at(class_in(queue, pool)))
     }
 
     /// How many works that run in the pool are runnable and count towards its concurrency level.
@@ -231,7 +231,7 @@ impl PhasedWorks {
         ensures awake { result ≡ awake_in self.now.scenario self.now.runs pool }
         ensures few { result ≤ length self.now.scenario.works }
     {
-        usize::from(self.counts.awake.of(usize::from(pool)))
+        usize::from(self.counts.awake.at(usize::from(pool)))
     }
 
     /// How many works of the queue run on its rescuer.
@@ -240,7 +240,7 @@ impl PhasedWorks {
         ensures rescued { result ≡ rescued_of self.now.scenario self.now.runs queue }
         ensures few { result ≤ length self.now.scenario.works }
     {
-        usize::from(self.counts.rescued.of(usize::from(queue)))
+        usize::from(self.counts.rescued.at(usize::from(queue)))
     }
 
     /// How many works of freezable queues run.

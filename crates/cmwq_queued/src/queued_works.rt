@@ -192,7 +192,7 @@ impl QueuedWorks {
         requires queue { queue < length self.now.scenario.queues }
         ensures { result ≡ pending_active self.now.scenario self.now.pending queue pool }
     {
-        usize::from(self.active.of(class_in(queue, pool)))
+        usize::from(self.active.at(class_in(queue, pool)))
     }
 
     /// Whether a work of a freezable queue is listed or deferred, in whatever pool.

@@ -80,14 +80,30 @@ fn pace(works: &mut PhasedWorks, time: u64, w: usize, may: bool)
     ensures paced { works.new ≡ record works.old { runs = slice_set works.old.runs w (paced_run may time (run_at works.old.runs w)) } }
     ensures timely { AreTimely time works.new.runs }
 {
+    match works.run(w) {
+        Some(run) if is_otherwise(run.phase, may) => repace(works, time, w, may),
+        _ => {}
+    }
+}
+
+fn is_otherwise(phase: Phase, may: bool) -> bool
+{
+    match phase {
+        Phase::Held(_) => may,
+        Phase::Burning(_) => !may,
+        Phase::Ready | Phase::Asleep(_) | Phase::Slept(_) => false,
+    }
+}
+
+#[inline(never)]
+fn repace(works: &mut PhasedWorks, time: u64, w: usize, may: bool)
+{
     works.own_stamps();
     match works.run(w) {
         None => {}
         Some(run) => {
             let phase = paced(run.phase, may, time);
-            if phase != run.phase {
-                works.carry_on(w, run, Run { phase, ..run });
-            }
+            works.carry_on(w, run, Run { phase, ..run });
         }
     }
 }
@@ -125,9 +141,8 @@ fn balance_normal(works: &mut PhasedWorks, time: u64, high: u8)
     ensures going { (pool : ℕ) → GoIn works.old.scenario works.old.runs pool ⊎ IsBeside works.old.scenario high pool → GoIn works.new.scenario works.new.runs pool }
 {
     let normal = high - 1;
-    let may = may_burn(works, normal);
     match works.first_in_line(normal) {
         None => {}
-        Some(w) => pace(works, time, w, may),
+        Some(w) => pace(works, time, w, may_burn(works, normal)),
     }
 }

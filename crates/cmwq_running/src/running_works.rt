@@ -147,7 +147,7 @@ impl RunningWorks {
         requires queue { queue < length self.now.scenario.queues }
         ensures { result ≡ has_free_rescuer self.now.scenario (state_of self.now) queue }
     {
-        self.works.scenario().flags_of(queue).mem_reclaim && self.works.rescued_of(queue) == 0
+        self.works.scenario().queues[usize::from(queue)].flags.mem_reclaim && self.works.rescued_of(queue) == 0
     }
 
     /// How many works of freezable queues run.

@@ -192,7 +192,8 @@ fn place_of_blank_from(bytes: &[u8], from: usize) -> Option<usize>
 
 /// The first place from this one on of a byte that is a space or lower, as each blank is; where there is
 /// none, the end.
-fn next_low(bytes: &[u8], from: usize) -> usize
+#[inline(always)]
+pub(crate) fn next_low(bytes: &[u8], from: usize) -> usize
     requires { from ≤ length bytes.now }
     ensures low { from ≤ result }
     ensures high { result ≤ length bytes.now }

@@ -12,7 +12,10 @@ pub fn is_same(one: &[u8], other: &[u8]) -> bool
     ensures { result ≡ bytes_eq one.now other.now }
 {
     let len = one.len();
-    if len != other.len() || len < 4 || len > 16 {
+    if len != other.len() {
+        return false;
+    }
+    if len < 4 || len > 16 {
         return is_same_at_any_length(one, other);
     }
     if len < 8 {

@@ -3,7 +3,8 @@ ghost use Rattle.cmwq_scan.specs.Words.{words_left};
 ghost use Rattle.std.specs.Prelude.{◌≡◌, ◌∷◌, ◌<◌, [], IfSome, MatchOption, length};
 ghost use Rattle.std.specs.Str.{bytes_eq};
 
-use crate::cutting::cut_at_blank;
+use crate::cutting::{cut_at_blank, next_low};
+use crate::equality::is_same;
 use crate::lanes::{LANES, run_before_blank};
 
 /// The next word, and what is left behind it; `None` where no word is left.
@@ -27,10 +28,21 @@ fn front_word<'t>(rest: &'t [u8]) -> Option<(&'t [u8], &'t [u8])>
     ensures shorter { IfSome result (λ found. length found.1.now < length rest.now) }
 {
     if rest.len() < LANES {
-        return None;
+        return short_word(rest);
     }
     let run = run_before_blank(rest, 0);
     if run == 0 || run == LANES {
+        return None;
+    }
+    Some((&rest[..run], &rest[run + 1..]))
+}
+
+/// The word that stands at the very front of few bytes, if a space is behind it.
+#[inline(always)]
+fn short_word<'t>(rest: &'t [u8]) -> Option<(&'t [u8], &'t [u8])>
+{
+    let run = next_low(rest, 0);
+    if run == 0 || run == rest.len() || rest[run] != b' ' {
         return None;
     }
     Some((&rest[..run], &rest[run + 1..]))
@@ -63,5 +75,5 @@ fn spaced_word<'t>(rest: &'t [u8]) -> Option<(&'t [u8], &'t [u8])>
 pub fn is_word(word: &[u8], wanted: &[u8]) -> bool
     ensures { result ≡ bytes_eq word.now wanted.now }
 {
-    word == wanted
+    is_same(word, wanted)
 }

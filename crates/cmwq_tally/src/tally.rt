@@ -49,6 +49,15 @@ impl Tally {
         }
     }
 
+    /// How many works stand in a class that there is.
+    #[inline(always)]
+    pub fn at(&self, class: usize) -> u16
+        requires class { class < length self.now }
+        ensures { result ≡ count_of self.now class }
+    {
+        self.counts[class]
+    }
+
     /// A work goes from one class to another; `None`, and a number that no class has, stand for being in none. It is
     /// quick where they are the same.
     #[inline(always)]

@@ -36,14 +36,10 @@ pub(crate) fn raise_alarm(ranks: &mut [u64], leaf: usize)
     ensures tree { IsTree ranks.new }
     ensures given { HasGiven ranks.old ranks.new leaf no_alarm }
 {
-    let was = ranks[leaf];
     ranks[leaf] = NO_ALARM;
     let mut lesser = NO_ALARM.min(ranks[node_beside(leaf)]);
     let mut at = leaf / 2;
     while at > 0 {
-        if ranks[at] != was {
-            return;
-        }
         ranks[at] = lesser;
         lesser = lesser.min(ranks[node_beside(at)]);
         at /= 2;
