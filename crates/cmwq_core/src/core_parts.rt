@@ -30,7 +30,6 @@ pub struct CoreParts {
     running: RunningWorks,
     workers: IdleWorkers,
     moving: PoolSet,
-    pools: PoolSet,
     next: u64,
     spent: u32,
     frozen: bool,
@@ -140,7 +139,6 @@ impl Parts for CoreParts {
             queued: works.queued,
             running: works.running,
             moving: PoolSet::all(),
-            pools: PoolSet::below(others.workers.made().len() as u8),
             workers: others.workers,
             next: 0,
             spent: 0,
@@ -166,7 +164,6 @@ impl Parts for CoreParts {
             running: works.running,
             workers: others.workers,
             moving: self.moving,
-            pools: self.pools,
             next: self.next,
             spent: self.spent,
             frozen: self.frozen,
@@ -225,7 +222,7 @@ impl Parts for CoreParts {
 
     #[inline(always)]
     fn may_move(&self) -> PoolSet {
-        self.moving.common(self.pools)
+        self.moving.common(PoolSet(self.workers.pool_bits()))
     }
 
     #[inline(never)]

@@ -1,5 +1,5 @@
 -- What a contract sees of a machine's workers.
-use Rattle.std.specs.Prelude.{ℕ, ◌*◌, ◌<◌, List, Option, None, IfSome, is_some, replicate, slice_index_or}
+use Rattle.std.specs.Prelude.{ℕ, ◌-◌, ◌*◌, ◌^◌, ◌<◌, if◌then◌else◌, List, Option, None, IfSome, is_some, nat_lt, replicate, slice_index_or}
 use Rattle.cmwq_types.specs.First.{first_below, by_greatest}
 use Rattle.cmwq_types.specs.declared.limits.TheConstants.{MAX_WORKERS}
 use Rattle.cmwq_table.specs.Counts.{idle_stamp}
@@ -24,6 +24,10 @@ made_in made pool = slice_index_or made pool 0
 abbrev pub last_idle_in : List (Option ℕ) → ℕ → ℕ → Option ℕ
 last_idle_in idle workers pool =
     first_below (by_greatest (λ worker. idle_stamp (stamp_at idle (seat pool worker)))) (λ worker. is_some (stamp_at idle (seat pool worker))) workers
+
+-- a bit for each of so many pools, as a number of 64 bits; none where there are more pools than bits
+abbrev pub pool_bits : ℕ → ℕ
+pool_bits pools = if nat_lt pools 64 then 2 ^ pools - 1 else 0
 
 -- each idle worker is idle from a stamp before this one on
 abbrev pub IsIdleBefore : List (Option ℕ) → ℕ → Type 0

@@ -1,5 +1,5 @@
 //! The idle workers.
-ghost use Rattle.cmwq_idle.specs.Idle.{IsIdleBefore, last_idle_in, made_in, no_workers, stamp_at};
+ghost use Rattle.cmwq_idle.specs.Idle.{IsIdleBefore, last_idle_in, made_in, no_workers, pool_bits, stamp_at};
 ghost use Rattle.cmwq_table.specs.State.{seat};
 ghost use Rattle.cmwq_types.specs.declared.limits.TheConstants.{MAX_WORKERS};
 ghost use Rattle.std.specs.Prelude.{◌≡◌, ◌<◌, ◌≤◌, ℕ, IfOk, IfSome, None, Some, if◌then◌else◌, ◌==◌, ◌+◌, length, slice_set};
@@ -19,17 +19,19 @@ pub struct IdleWorkers {
     last: Vec<Link>,
     made: Vec<u8>,
     workers: u8,
+    bits: u64,
 }
 
 impl Model for IdleWorkers {
-    ghost use Rattle.cmwq_idle.specs.Idle.{WorkersContents};
+    ghost use Rattle.cmwq_idle.specs.Idle.{WorkersContents, pool_bits};
     ghost use Rattle.cmwq_idle.specs.Links.{IsKept};
+    ghost use Rattle.std.specs.Prelude.{◌≡◌, length};
 
     ghost Value = { WorkersContents };
 
     ghost view = { λ i. record { idle = i.idle.items; made = i.made.items; workers = i.workers } };
 
-    ghost invariant = { λ i. IsKept i.idle.items i.links.items i.last.items i.made.items i.workers };
+    ghost invariant = { λ i. IsKept i.idle.items i.links.items i.last.items i.made.items i.workers × (i.bits ≡ pool_bits (length i.made.items)) };
 }
 
 impl IdleWorkers {
@@ -45,6 +47,7 @@ impl IdleWorkers {
             last: filled(alloc, Link::nobody(), pools as usize)?,
             made: filled(alloc, 0, pools as usize)?,
             workers,
+            bits: pool_bits(pools),
         })
     }
 
@@ -59,6 +62,7 @@ impl IdleWorkers {
             last: Vec::from_slice(alloc, &self.last)?,
             made: Vec::from_slice(alloc, &self.made)?,
             workers: self.workers,
+            bits: self.bits,
         })
     }
 
@@ -89,6 +93,14 @@ impl IdleWorkers {
         ensures { result.now ≡ self.now.made }
     {
         &self.made
+    }
+
+    /// A bit for each pool, the lowest for the first one. It is 0 where there are more pools than bits.
+    #[inline(always)]
+    pub fn pool_bits(&self) -> u64
+        ensures { result ≡ pool_bits (length self.now.made) }
+    {
+        self.bits
     }
 
     /// The worker of the pool that became idle last.
@@ -159,6 +171,13 @@ impl IdleWorkers {
             self.idle[at] = Some(stamp);
         }
     }
+}
+
+/// A bit for each of so many pools. It is 0 where there are more than bits.
+fn pool_bits(pools: u8) -> u64
+    ensures { result ≡ pool_bits pools }
+{
+    if pools < 64 { (1 << pools) - 1 } else { 0 }
 }
 
 /// The number of a worker of a pool among all workers.

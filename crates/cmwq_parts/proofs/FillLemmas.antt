@@ -27,3 +27,10 @@ fill_times-done S queue pool n k s h =
 -- a scenario and a state by their parts
 pub loaded-is : (m : Loaded) (S : ScenarioContents) (s : State) → m.scenario ≡ S → m.state ≡ s → m ≡ record { scenario = S; state = s }
 loaded-is m S s a b = ap (λ (T : ScenarioContents). record { scenario = T; state = m.state }) a ∙ ap (λ (t : State). record { scenario = S; state = t }) b
+
+-- one turn, and then the others
+pub fill_times-first : (S : ScenarioContents) (queue pool n : ℕ) (s : State) → 0 < n → fill_times S queue pool (n - 1) (fill_one S queue pool s) ≡ fill_times S queue pool n s
+fill_times-first S queue pool n s some =
+    let others : n - 1 ≡ n - (0 + 1) = omega arith in
+    let all : n - 0 ≡ n = omega arith in
+    ap (λ (m : ℕ). fill_times S queue pool m (fill_one S queue pool s)) others ∙ fill_times-turn S queue pool n 0 s some ∙ ap (λ (m : ℕ). fill_times S queue pool m s) all

@@ -1,11 +1,11 @@
 //! Placing works in worker pools, and filling what has room.
-ghost use Rattle.cmwq_table.specs.Moves.{fill, fill_from, fill_one, fire, place, place_after, pool_for, take_off, taken_off};
+ghost use Rattle.cmwq_table.specs.Moves.{fill, fill_from, fill_one, fill_times, fire, place, place_after, pool_for, take_off, taken_off};
 ghost use Rattle.cmwq_table.specs.Ready.{Takes};
 ghost use Rattle.cmwq_table.specs.State.{is_disabled, pending_at};
 ghost use Rattle.cmwq_types.specs.Scenario.{queue_of};
 ghost use Rattle.cmwq_types.specs.Setting.{IsSetting};
 ghost use Rattle.cmwq_types.specs.declared.limits.TheConstants.{MAX_WORKS};
-ghost use Rattle.std.specs.Prelude.{◌≡◌, ◌<◌, ◌≤◌, ◌+◌, ◌^◌, IsFalse, None, Some, length};
+ghost use Rattle.std.specs.Prelude.{◌≡◌, ◌<◌, ◌≤◌, ◌+◌, ◌-◌, ◌^◌, IsFalse, IsTrue, None, Some, length};
 
 use crate::going::Going;
 use crate::parts::Parts;
@@ -86,6 +86,7 @@ impl<P: Parts> Going<P> {
         requires { self.old.state.next < 2 ^ 63 }
         ensures filled { self.new ≡ record self.old { state = fill_one self.old.scenario queue pool self.old.state } }
         ensures stamps { self.new.state.next ≤ self.old.state.next + 1 }
+        ensures works { IsTrue result → 0 < length self.old.scenario.works }
         ensures unchanged { IsFalse result → self.new ≡ self.old }
     {
         match self.parts.first_inactive(queue, pool) {
@@ -105,21 +106,25 @@ impl<P: Parts> Going<P> {
         self.parts.scenario().works.len()
     }
 
-    /// While the queue has room in the pool, lists its first inactive work there.
+    /// While the queue has room in the pool, lists its first inactive work there. Mostly there is none, or one.
     #[inline(always)]
     pub fn fill(&mut self, queue: u8, pool: u8)
         requires { self.old.state.next < 2 ^ 62 }
         ensures filled { self.new ≡ record self.old { state = fill self.old.scenario queue pool self.old.state } }
         ensures takes { Takes MAX_WORKS self.old.state self.new.state }
     {
+        // No more works are listed than there are.
+        let _ = self.work_count();
         if self.fill_one(queue, pool) {
             self.fill_more(queue, pool);
         }
     }
 
-    /// While the queue has room in the pool, lists its first inactive work there.
+    /// Does so where one was listed already.
     #[inline(never)]
     fn fill_more(&mut self, queue: u8, pool: u8)
+        requires { self.old.state.next ≤ 2 ^ 62 }
+        ensures { self.new ≡ record self.old { state = fill_times self.old.scenario queue pool (length self.old.scenario.works - 1) self.old.state } }
     {
         for _turn in 1..self.work_count() {
             if !self.fill_one(queue, pool) {

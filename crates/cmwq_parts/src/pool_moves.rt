@@ -8,7 +8,8 @@ ghost use Rattle.cmwq_table.specs.State.{is_disabled, pending_at, running_at};
 ghost use Rattle.cmwq_types.specs.Scenario.{op_at, pool_count};
 ghost use Rattle.cmwq_types.specs.Setting.{IsSetting};
 ghost use Rattle.cmwq_types.specs.declared.limits.TheConstants.{MAX_OPS};
-ghost use Rattle.std.specs.Prelude.{◌≡◌, ◌&&◌, ◌<◌, ◌≤◌, ◌^◌, IfSome, None, Some, is_none, is_some, length, true, ℕ};
+ghost use Rattle.cmwq_types.specs.declared.reply.Event.TheVariants as event;
+ghost use Rattle.std.specs.Prelude.{◌≡◌, ◌&&◌, ◌<◌, ◌^◌, IfSome, None, Some, false, is_none, is_some, length};
 
 use crate::going::Going;
 use crate::parts::Parts;
@@ -79,8 +80,8 @@ impl<P: Parts> Going<P> {
         Some(Found::Start(WorkId(w as u16), worker))
     }
 
-    /// The least pool that has a move, and its move. It lets the parts know which of those that may have one have none. The first of these is asked
-    /// apart from the others: mostly it has a move, and what a search would prepare for its turns isn't worth while.
+    /// The least pool that has a move, and its move. Of the pools that may have one it asks each in turn, and lets the parts know which
+    /// have none.
     #[inline(always)]
     pub fn first_move(&mut self) -> Option<(u8, Found)>
         ensures same { self.new ≡ self.old }
@@ -90,27 +91,6 @@ impl<P: Parts> Going<P> {
         // No scenario has as many pools as a set has room for.
         let _ = self.parts.scenario();
         let mut left = self.parts.may_move();
-        while let Some(pool) = left.first() {
-            if let Some(next) = self.next_move(pool) {
-                return Some((pool, next));
-            }
-            self.parts.settle(pool);
-            left = left.without(pool);
-        }
-        None
-    }
-
-    /// The same where only these pools may have a move. It asks each in turn.
-    #[inline(never)]
-    fn first_move_among(&mut self, pools: PoolSet) -> Option<(u8, Found)>
-        requires few { pool_count self.old.scenario ≤ 64 }
-        requires covered { (pool : ℕ) → pool < pool_count self.old.scenario → is_some (next_move self.old.scenario self.old.state pool) ≡ true → has_pool pools pool ≡ true }
-        requires in_range { (pool : ℕ) → pool < 64 → has_pool pools pool ≡ true → pool < pool_count self.old.scenario }
-        ensures same { self.new ≡ self.old }
-        ensures first { IsFirstMove self.old.scenario self.old.state result }
-        ensures fits { IfSome result (λ first. IsFound self.old.scenario self.old.state first.0 first.1) }
-    {
-        let mut left = pools;
         while let Some(pool) = left.first() {
             if let Some(next) = self.next_move(pool) {
                 return Some((pool, next));
@@ -295,11 +275,17 @@ impl<P: Parts> Going<P> {
     /// A body queues a work after so many ticks, unless it is disabled. A pending work stays as it is.
     #[inline(always)]
     fn delay_from_body(&mut self, other: WorkId, cpu: u8, ticks: u32) -> Event
+        requires work { other.0 < length self.old.scenario.works }
+        requires cpu { cpu < self.old.scenario.cpus }
+        requires time { self.old.state.time < 2 ^ 63 }
+        requires stamps { self.old.state.next < 2 ^ 63 }
+        ensures state { self.new ≡ record self.old { state = (delay_from_body self.old.scenario self.old.state other cpu ticks (is_disabled self.old.state other.0) (pending_at self.old.state other.0)).0 } }
+        ensures event { result ≡ (delay_from_body self.old.scenario self.old.state other cpu ticks (is_disabled self.old.state other.0) (pending_at self.old.state other.0)).1 }
     {
         if self.is_disabled(other) {
             return Event::DelaysDisabled { other, ticks };
         }
-        let already = self.delay_unless_pending(other.0 as usize, cpu, ticks);
+        let already = self.delay_unless_pending(other, cpu, ticks);
         Event::Delays {
             other,
             ticks,
@@ -307,11 +293,20 @@ impl<P: Parts> Going<P> {
         }
     }
 
+    /// Queues a work that isn't disabled after so many ticks, unless it is pending. Answers whether it is. It is called, and not written out at its
+    /// call, as bodies seldom do it.
     #[inline(never)]
-    fn delay_unless_pending(&mut self, w: usize, cpu: u8, ticks: u32) -> bool {
-        let already = self.parts.pending(w).is_some();
+    fn delay_unless_pending(&mut self, other: WorkId, cpu: u8, ticks: u32) -> bool
+        requires work { other.0 < length self.old.scenario.works }
+        requires cpu { cpu < self.old.scenario.cpus }
+        requires time { self.old.state.time < 2 ^ 63 }
+        requires stamps { self.old.state.next < 2 ^ 63 }
+        ensures state { self.new ≡ record self.old { state = (delay_from_body self.old.scenario self.old.state other cpu ticks false (pending_at self.old.state other.0)).0 } }
+        ensures event { event.Delays other ticks result ≡ (delay_from_body self.old.scenario self.old.state other cpu ticks false (pending_at self.old.state other.0)).1 }
+    {
+        let already = self.parts.pending(other.0 as usize).is_some();
         if !already {
-            self.place_after(w, cpu, ticks);
+            self.place_after(other.0 as usize, cpu, ticks);
         }
         already
     }
@@ -319,11 +314,17 @@ impl<P: Parts> Going<P> {
     /// A body queues a work anew after so many ticks, unless it is disabled. A pending work is taken off first.
     #[inline(always)]
     fn mod_from_body(&mut self, other: WorkId, cpu: u8, ticks: u32) -> Event
+        requires work { other.0 < length self.old.scenario.works }
+        requires cpu { cpu < self.old.scenario.cpus }
+        requires time { self.old.state.time < 2 ^ 63 }
+        requires stamps { self.old.state.next < 2 ^ 62 }
+        ensures state { self.new ≡ record self.old { state = (mod_from_body self.old.scenario self.old.state other cpu ticks (is_disabled self.old.state other.0) (pending_at self.old.state other.0)).0 } }
+        ensures event { result ≡ (mod_from_body self.old.scenario self.old.state other cpu ticks (is_disabled self.old.state other.0) (pending_at self.old.state other.0)).1 }
     {
         if self.is_disabled(other) {
             return Event::ModsDisabled { other, ticks };
         }
-        let changed = self.place_anew(other.0 as usize, cpu, ticks);
+        let changed = self.place_anew(other, cpu, ticks);
         Event::Mods {
             other,
             ticks,
@@ -331,8 +332,18 @@ impl<P: Parts> Going<P> {
         }
     }
 
+    /// Takes a work that isn't disabled off, if it is pending, and places it after so many ticks. Answers whether it was pending. It is called, and
+    /// not written out at its call, as bodies seldom do it.
     #[inline(never)]
-    fn place_anew(&mut self, w: usize, cpu: u8, ticks: u32) -> bool {
+    fn place_anew(&mut self, other: WorkId, cpu: u8, ticks: u32) -> bool
+        requires work { other.0 < length self.old.scenario.works }
+        requires cpu { cpu < self.old.scenario.cpus }
+        requires time { self.old.state.time < 2 ^ 63 }
+        requires stamps { self.old.state.next < 2 ^ 62 }
+        ensures state { self.new ≡ record self.old { state = (mod_from_body self.old.scenario self.old.state other cpu ticks false (pending_at self.old.state other.0)).0 } }
+        ensures was { result ≡ is_some (pending_at self.old.state other.0) }
+    {
+        let w = other.0 as usize;
         match self.parts.pending(w) {
             Some(p) => {
                 self.replace(w, p, cpu, ticks);
@@ -348,15 +359,25 @@ impl<P: Parts> Going<P> {
     /// A body takes a work off, if it is pending.
     #[inline(always)]
     fn cancel_from_body(&mut self, other: WorkId) -> Event
+        requires work { other.0 < length self.old.scenario.works }
+        requires stamps { self.old.state.next < 2 ^ 62 }
+        ensures state { self.new ≡ record self.old { state = (cancel_from_body self.old.scenario self.old.state other (pending_at self.old.state other.0)).0 } }
+        ensures event { result ≡ (cancel_from_body self.old.scenario self.old.state other (pending_at self.old.state other.0)).1 }
     {
-        let was = self.take_off_pending(other.0 as usize);
+        let was = self.take_off_pending(other);
         Event::Cancels { other, was }
     }
 
+    /// Takes a work off, if it is pending. Answers whether it was. It is called, and not written out at its call, as bodies seldom do it.
     #[inline(never)]
-    fn take_off_pending(&mut self, w: usize) -> bool {
-        let was = self.parts.pending(w).is_some();
-        self.take_off(w);
+    fn take_off_pending(&mut self, other: WorkId) -> bool
+        requires work { other.0 < length self.old.scenario.works }
+        requires stamps { self.old.state.next < 2 ^ 62 }
+        ensures state { self.new ≡ record self.old { state = (cancel_from_body self.old.scenario self.old.state other (pending_at self.old.state other.0)).0 } }
+        ensures was { result ≡ is_some (pending_at self.old.state other.0) }
+    {
+        let was = self.parts.pending(other.0 as usize).is_some();
+        self.take_off(other.0 as usize);
         was
     }
 

@@ -1,46 +1,30 @@
-use Rattle.std.proofs.Common.{◌≡◌, ◌-◌, ◌<◌, ◌≤◌, length, sym, ◌∙◌, ap, arith}
+use Rattle.std.proofs.Common.{◌≡◌, ◌-◌, length, sym, ◌∙◌, ap}
 use Rattle.cmwq_table.specs.Ready.{Loaded}
-use Rattle.cmwq_table.specs.Moves.{fill, fill_one}
+use Rattle.cmwq_table.specs.State.{State}
+use Rattle.cmwq_table.specs.Moves.{fill_one, fill_times}
 use Rattle.cmwq_table.proofs.CounterLemmas.{fill-takes}
-use Rattle.cmwq_parts.proofs.FillLemmas.{loaded-is, fill_times-done, fill_times-stays, fill_times-turn}
+use Rattle.cmwq_parts.proofs.FillLemmas.{fill_times-first, fill_times-stays}
 use Rattle.cmwq_parts.proofs.going.Going.fill.Goals as goal
 
-pub loop-turn-preserved : goal.loop-turn-preserved
-loop-turn-preserved g c =
-    let was = c.loop-turn.self in
-    let filled = c.fill_one.ensures.filled in
-    let below : c.loop-turn._turn < length was.scenario.works = rw c.loop-turn.invariant.same (grind arith) in
-    record {
-      same = ap (λ (m : Loaded). m.scenario) filled ∙ c.loop-turn.invariant.same;
-      rest = rw filled (fill_times-turn was.scenario c.args.queue c.args.pool (length was.scenario.works) c.loop-turn._turn was.state below ∙ c.loop-turn.invariant.rest);
-      stamps = omega (arith, c.fill_one.ensures.stamps, c.loop-turn.invariant.stamps);
-    }
+pub returns-then-fill_one-clause-filled : goal.returns-then-fill_one-clause-filled
+returns-then-fill_one-clause-filled g c =
+    let S = c.args.self.now.scenario in
+    let first = fill_times-first S c.args.queue c.args.pool (length S.works) c.args.self.now.state (c.fill_one.ensures.works c.if-fill_one.true) in
+    c.fill_more.ensures ∙ ap (λ (m : Loaded). record { scenario = m.scenario; state = fill_times m.scenario c.args.queue c.args.pool (length m.scenario.works - 1) m.state }) c.fill_one.ensures.filled
+    ∙ ap (λ (s : State). record { scenario = S; state = s }) first
 
-pub fill_one-requires : goal.fill_one-requires
-fill_one-requires g c =
-    omega (arith, c.loop-turn.invariant.stamps, c.requires, c.loop-turn-test.true, c.work_count-turn-end.ensures.count, c.work_count-turn-end.ensures.setting.works)
+pub returns-else-fill_one-clause-filled : goal.returns-else-fill_one-clause-filled
+returns-else-fill_one-clause-filled g c =
+    let S = c.args.self.now.scenario in
+    let s = c.args.self.now.state in
+    let same = c.fill_one.ensures.unchanged c.if-fill_one.false in
+    let still : fill_one S c.args.queue c.args.pool s ≡ s = ap (λ (m : Loaded). m.state) (sym c.fill_one.ensures.filled ∙ same) in
+    same ∙ ap (λ (t : State). record { scenario = S; state = t }) (sym (fill_times-stays S c.args.queue c.args.pool (length S.works) s still))
 
-pub returns-then-not-fill_one-clause-filled : goal.returns-then-not-fill_one-clause-filled
-returns-then-not-fill_one-clause-filled g c =
-    let was = c.loop-turn.self in
-    let S = was.scenario in
-    let same : c.fill_one.new.self ≡ was = c.fill_one.ensures.unchanged c.if-not-fill_one.true in
-    let still : fill_one S c.args.queue c.args.pool was.state ≡ was.state = ap (λ (m : Loaded). m.state) (sym c.fill_one.ensures.filled ∙ same) in
-    let rest = sym (fill_times-stays S c.args.queue c.args.pool (length S.works - c.loop-turn._turn) was.state still) ∙ c.loop-turn.invariant.rest in
-    same ∙ loaded-is was c.args.self.now.scenario (fill c.args.self.now.scenario c.args.queue c.args.pool c.args.self.now.state) c.loop-turn.invariant.same rest
+pub returns-then-fill_one-clause-takes : goal.returns-then-fill_one-clause-takes
+returns-then-fill_one-clause-takes g c =
+    rw (returns-then-fill_one-clause-filled g c) (fill-takes c.args.self.now.scenario c.args.queue c.args.pool c.args.self.now.state c.work_count.ensures.setting)
 
-pub returns-then-not-fill_one-clause-takes : goal.returns-then-not-fill_one-clause-takes
-returns-then-not-fill_one-clause-takes g c =
-    rw (returns-then-not-fill_one-clause-filled g c) (fill-takes c.args.self.now.scenario c.args.queue c.args.pool c.args.self.now.state c.work_count-turn-end.ensures.setting)
-
-pub returns-after-loop-turn-clause-filled : goal.returns-after-loop-turn-clause-filled
-returns-after-loop-turn-clause-filled g c =
-    let was = c.loop-turn.self in
-    let S = was.scenario in
-    let all_done : length S.works ≤ c.loop-turn._turn = rw c.loop-turn.invariant.same (omega (arith, c.loop-turn-test.false, c.work_count-turn-end.ensures.count)) in
-    let rest = sym (fill_times-done S c.args.queue c.args.pool (length S.works) c.loop-turn._turn was.state all_done) ∙ c.loop-turn.invariant.rest in
-    loaded-is was c.args.self.now.scenario (fill c.args.self.now.scenario c.args.queue c.args.pool c.args.self.now.state) c.loop-turn.invariant.same rest
-
-pub returns-after-loop-turn-clause-takes : goal.returns-after-loop-turn-clause-takes
-returns-after-loop-turn-clause-takes g c =
-    rw (returns-after-loop-turn-clause-filled g c) (fill-takes c.args.self.now.scenario c.args.queue c.args.pool c.args.self.now.state c.work_count-turn-end.ensures.setting)
+pub returns-else-fill_one-clause-takes : goal.returns-else-fill_one-clause-takes
+returns-else-fill_one-clause-takes g c =
+    rw (returns-else-fill_one-clause-filled g c) (fill-takes c.args.self.now.scenario c.args.queue c.args.pool c.args.self.now.state c.work_count.ensures.setting)

@@ -1,7 +1,7 @@
 use Rattle.std.proofs.Common.{◌≡◌, ◌≤◌}
 use Rattle.cmwq_types.specs.Scenario.{pool_count}
 use Rattle.cmwq_parts.proofs.PoolLemmas.{Covers, IsWithin}
-use Rattle.cmwq_parts.proofs.going.Going.first_move_among.Given as goal
+use Rattle.cmwq_parts.proofs.going.Going.first_move.Given as goal
 
 -- each pool that has a move is left, and each that is left is there
 abbrev pub invariant-loop-pool : goal.invariant-loop-pool
