@@ -5,11 +5,10 @@ use Rattle.cmwq_types.specs.declared.instr.Instr.{Instr}
 use Rattle.cmwq_types.specs.declared.reply.Refusal.{Refusal}
 use Rattle.cmwq_types.specs.declared.reply.Reply.{Reply}
 use Rattle.cmwq_table.specs.Ready.{Loaded}
-use Rattle.cmwq_table.specs.Repeats.{reply_of}
 use Rattle.cmwq_table.specs.State.{State}
 use Rattle.cmwq_table.specs.Table.{effect, situation}
-use Rattle.cmwq_table.specs.declared.machine.Happened.{Happened}
-use Rattle.cmwq_table.specs.declared.machine.Went.TheVariants as went
+use Rattle.cmwq_exec.specs.Answered.{answered}
+use Rattle.cmwq_exec.specs.declared.answer.Answer.{Answer}
 
 -- a refusal changes nothing
 abbrev pub unless_refused : State → Option Refusal → State × Reply → State × Result Reply Refusal
@@ -20,15 +19,6 @@ abbrev pub performed : ScenarioContents → State → Instr → State × Result 
 performed S s i = unless_refused s (situation S s i) (effect S s i)
 
 -- the instruction was carried out, or refused
-pub record Performs (old : Loaded) (i : Instr) (new : Loaded) (answer : Result Reply Refusal) : Type 0 where
+pub record Performs (old : Loaded) (i : Instr) (new : Loaded) (given : Result Answer Refusal) : Type 0 where
   pub state : new ≡ record old { state = (performed old.scenario old.state i).0 }
-  pub answered : answer ≡ (performed old.scenario old.state i).1
-
--- the reply that tells what happened
-abbrev pub event_reply : Happened → Reply
-event_reply happened = reply_of (went.Happened happened)
-
--- the reply to `next`: nothing happened where it ticked
-abbrev pub next_reply : Option Happened → Reply
-next_reply (Some happened) = event_reply happened
-next_reply None = reply_of went.Ticked
+  pub answered : answered new.state given ≡ (performed old.scenario old.state i).1

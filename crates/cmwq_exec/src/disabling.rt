@@ -3,13 +3,13 @@ ghost use Rattle.cmwq_exec.specs.Performing.{Performs};
 ghost use Rattle.cmwq_types.specs.declared.instr.Instr.TheVariants as instr;
 ghost use Rattle.std.specs.Prelude.{◌<◌, ◌^◌, length};
 
-use crate::performing::{cancel, yes_or_no};
-use crate::performing::Brief;
+use crate::answer::Answer;
+use crate::performing::cancel;
 use cmwq_parts::{Going, Parts};
 use cmwq_types::{MAX_DEPTH, Refusal, WorkId};
 
 /// Disables the work once more, and takes it off if it is pending.
-pub(crate) fn disable<P: Parts>(going: &mut Going<P>, w: WorkId) -> Result<Brief, Refusal>
+pub(crate) fn disable<P: Parts>(going: &mut Going<P>, w: WorkId) -> Result<Answer, Refusal>
     requires work { w.0 < length going.old.scenario.works }
     requires stamps { going.old.state.next < 2 ^ 60 }
     ensures { Performs going.old (instr.Disable w) going.new result }
@@ -23,7 +23,7 @@ pub(crate) fn disable<P: Parts>(going: &mut Going<P>, w: WorkId) -> Result<Brief
 }
 
 /// Takes back one time that the work was disabled, and answers whether it can be queued again.
-pub(crate) fn enable<P: Parts>(going: &mut Going<P>, w: WorkId) -> Result<Brief, Refusal>
+pub(crate) fn enable<P: Parts>(going: &mut Going<P>, w: WorkId) -> Result<Answer, Refusal>
     requires { w.0 < length going.old.scenario.works }
     ensures { Performs going.old (instr.Enable w) going.new result }
 {
@@ -32,5 +32,5 @@ pub(crate) fn enable<P: Parts>(going: &mut Going<P>, w: WorkId) -> Result<Brief,
     }
     let depth = going.parts.depth_of(w.0 as usize) - 1;
     going.parts.set_depth(w.0 as usize, depth);
-    Ok(yes_or_no(depth == 0))
+    Ok(Answer::yes_or_no(depth == 0))
 }

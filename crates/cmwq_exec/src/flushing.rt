@@ -6,7 +6,7 @@ ghost use Rattle.cmwq_table.specs.Table.{no_more_flushes};
 ghost use Rattle.cmwq_types.specs.declared.instr.Instr.TheVariants as instr;
 ghost use Rattle.std.specs.Prelude.{◌≡◌, ◌<◌, ◌^◌, IfErr, IfOk, None, Some, length};
 
-use crate::performing::Brief;
+use crate::answer::Answer;
 use cmwq_parts::{Going, Parts};
 use cmwq_table::FlushTarget;
 use cmwq_types::{QueueId, Refusal, WorkId};
@@ -27,7 +27,7 @@ fn next_flush<P: Parts>(going: &Going<P>) -> Result<u16, Refusal>
 }
 
 /// Takes a pending work off, and gives a flush on the running instance.
-pub(crate) fn cancel_sync<P: Parts>(going: &mut Going<P>, w: WorkId) -> Result<Brief, Refusal>
+pub(crate) fn cancel_sync<P: Parts>(going: &mut Going<P>, w: WorkId) -> Result<Answer, Refusal>
     requires work { w.0 < length going.old.scenario.works }
     requires stamps { going.old.state.next < 2 ^ 60 }
     ensures { Performs going.old (instr.CancelSync w) going.new result }
@@ -37,21 +37,21 @@ pub(crate) fn cancel_sync<P: Parts>(going: &mut Going<P>, w: WorkId) -> Result<B
     going.take_off(w.0 as usize);
     let target = running_instance(going, w);
     going.parts.push_flush(target);
-    Ok(Brief::Sync { was, flush })
+    Ok(Answer::Sync { was, flush })
 }
 
 /// Gives a flush on the last instance of the work.
-pub(crate) fn flush_last<P: Parts>(going: &mut Going<P>, w: WorkId) -> Result<Brief, Refusal>
+pub(crate) fn flush_last<P: Parts>(going: &mut Going<P>, w: WorkId) -> Result<Answer, Refusal>
     ensures { Performs going.old (instr.Flush w) going.new result }
 {
     let flush = next_flush(going)?;
     let target = last_instance(going, w);
     going.parts.push_flush(target);
-    Ok(Brief::Flush(flush))
+    Ok(Answer::Flush(flush))
 }
 
 /// Fires the work's timer, if it has one, and gives a flush on its last instance.
-pub(crate) fn flush_delayed<P: Parts>(going: &mut Going<P>, w: WorkId) -> Result<Brief, Refusal>
+pub(crate) fn flush_delayed<P: Parts>(going: &mut Going<P>, w: WorkId) -> Result<Answer, Refusal>
     requires work { w.0 < length going.old.scenario.works }
     requires stamps { going.old.state.next < 2 ^ 60 }
     ensures { Performs going.old (instr.FlushDelayed w) going.new result }
@@ -62,13 +62,13 @@ pub(crate) fn flush_delayed<P: Parts>(going: &mut Going<P>, w: WorkId) -> Result
 }
 
 /// Gives a flush on what was queued on the queue so far.
-pub(crate) fn flush_queue<P: Parts>(going: &mut Going<P>, queue: QueueId) -> Result<Brief, Refusal>
+pub(crate) fn flush_queue<P: Parts>(going: &mut Going<P>, queue: QueueId) -> Result<Answer, Refusal>
     ensures { Performs going.old (instr.FlushQueue queue) going.new result }
 {
     let flush = next_flush(going)?;
     let bound = going.parts.next_stamp();
     going.parts.push_flush(FlushTarget::Queue { queue, bound });
-    Ok(Brief::Flush(flush))
+    Ok(Answer::Flush(flush))
 }
 
 /// The running instance of the work, by its birth, as what a flush waits for; nothing where it

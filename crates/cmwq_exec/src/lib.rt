@@ -2,6 +2,7 @@
 //! structure answers the questions of the table and makes its single changes, its `Parts`.
 #![tactic(auto)]
 
+mod answer;
 mod disabling;
 mod driven;
 mod flushing;

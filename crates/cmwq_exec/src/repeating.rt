@@ -1,6 +1,6 @@
 //! What is carried out several times at once: `next` up to a reply with a line, and what comes out the same.
 ghost use Rattle.cmwq_exec.specs.Advances.{HasAdvanced};
-ghost use Rattle.cmwq_exec.specs.Performing.{next_reply};
+ghost use Rattle.cmwq_exec.specs.Answered.{next_reply};
 ghost use Rattle.cmwq_table.specs.Ready.{IsKept};
 ghost use Rattle.cmwq_table.specs.Repeats.{HasAnswered, HasGone, HasRepeated, reply_of};
 ghost use Rattle.cmwq_table.specs.State.{is_disabled};

@@ -6,7 +6,7 @@ use Rattle.cmwq_table.proofs.CounterLemmas.{effect-spent}
 use Rattle.cmwq_table.proofs.RepeatLemmas.{with_spent}
 use Rattle.cmwq_parts.specs.SettledTicks.{AreSettled, ticks}
 use Rattle.cmwq_exec.specs.Advances.{HasAdvanced}
-use Rattle.cmwq_exec.specs.Performing.{event_reply}
+use Rattle.cmwq_exec.specs.Answered.{event_reply}
 use Rattle.cmwq_exec.proofs.NextLemmas.{next-advances}
 use Rattle.cmwq_exec.proofs.SettledLemmas.{passes, ticks-spent}
 use Rattle.cmwq_exec.proofs.repeating.advance.Goals as goal

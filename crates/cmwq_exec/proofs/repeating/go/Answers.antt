@@ -5,7 +5,7 @@ use Rattle.cmwq_types.specs.declared.reply.Reply.TheVariants.{Done, Refused}
 use Rattle.cmwq_table.specs.Events.{is_silent}
 use Rattle.cmwq_table.specs.Ready.{Loaded}
 use Rattle.cmwq_exec.specs.Advances.{HasAdvanced}
-use Rattle.cmwq_exec.specs.Performing.{event_reply, next_reply}
+use Rattle.cmwq_exec.specs.Answered.{event_reply, next_reply}
 use Rattle.cmwq_exec.proofs.AdvanceLemmas.{advanced-kept, advanced-on, advanced-turn, gone-so-far, silent-all}
 use Rattle.cmwq_exec.proofs.NextLemmas.{refused-advances}
 use Rattle.cmwq_exec.proofs.repeating.go.Goals as goal
