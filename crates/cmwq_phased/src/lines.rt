@@ -2,7 +2,7 @@
 ghost use Rattle.cmwq_lists.specs.ListContents.{IsApart, rank_at, with_rank};
 ghost use Rattle.cmwq_phased.specs.Indexes.{AreLined, AreRuns, IsApartFromOthers, rank_of, standing_of, stands_by};
 ghost use Rattle.cmwq_phased.specs.declared.pools.TheConstants.{MAX_POOLS};
-ghost use Rattle.cmwq_phases.specs.Runs.{HasOwnStamp, run_at};
+ghost use Rattle.cmwq_phases.specs.Runs.{HasOwnStamp, is_ready, run_at};
 ghost use Rattle.cmwq_types.specs.Setting.{IsSetting};
 ghost use Rattle.cmwq_types.specs.declared.limits.TheConstants.{MAX_WORKS};
 ghost use Rattle.std.specs.Prelude.{◌≡◌, ◌+◌, ◌<◌, IfSome, IsTrue, None, Some, length, slice_set};
@@ -106,8 +106,8 @@ pub(crate) fn line_up_in_pool(
     }
 }
 
-/// Whether it's known at once that a work that stays in its pool, an unbound or a bound one, stays in its place: in a bound one
-/// who is awake stands in line by his stamp.
+/// Whether it's known at once that a work that stays in its pool, an unbound or a bound one, stays in its place: who has nothing left to burn
+/// stands in line by his stamp, and in a bound one so does who is awake.
 #[inline(always)]
 fn stays_in_line(unbound: bool, was: Run, run: Run) -> bool
     requires pool { run.pool ≡ was.pool }
@@ -118,9 +118,10 @@ fn stays_in_line(unbound: bool, was: Run, run: Run) -> bool
             || !unbound && is_awake(was.phase) && is_awake(run.phase))
 }
 
-/// Whether nothing is left to burn in this phase.
+/// Whether a work in this phase is awake and has nothing left to burn.
 #[inline(always)]
 fn is_ready(phase: Phase) -> bool
+    ensures { result ≡ is_ready phase }
 {
     matches!(phase, Phase::Ready)
 }

@@ -1,5 +1,5 @@
 -- Who has ticks left to burn, and how time passes for him. No public clause cites this module.
-use Rattle.std.specs.Prelude.{◌≡◌, ◌≢◌, ℕ, ◌+◌, ◌-◌, ◌<◌, ◌≤◌, ◌^◌, Bool, true, false, ◌&&◌, ◌||◌, ◌==◌, if◌then◌else◌, is_none, is_some, nat_le, List, length, Option, Some, None, IfSome}
+use Rattle.std.specs.Prelude.{◌≡◌, ◌≢◌, ℕ, ◌+◌, ◌-◌, ◌<◌, ◌≤◌, ◌^◌, Bool, true, false, not, ◌&&◌, ◌||◌, ◌==◌, if◌then◌else◌, is_none, is_some, nat_le, List, length, Option, Some, None, IfSome}
 use Rattle.cmwq_types.specs.Contents.{ScenarioContents}
 use Rattle.cmwq_types.specs.First.{count_below, first_below, by_least}
 use Rattle.cmwq_types.specs.Scenario.{is_high, is_unbound}
@@ -119,6 +119,14 @@ paced may time (Held left) = if may then Burning (time + left) else Held left
 paced may time (Burning end) = if may then Burning end else Held (end - time)
 paced may time (Asleep until) = Asleep until
 paced may time (Slept until) = Slept until
+
+-- whether he is held though he may burn, or burns though he may not
+abbrev pub is_out_of_pace : Bool → Phase → Bool
+is_out_of_pace may Ready = false
+is_out_of_pace may (Held left) = may
+is_out_of_pace may (Burning end) = not may
+is_out_of_pace may (Asleep until) = false
+is_out_of_pace may (Slept until) = false
 
 abbrev pub in_phase : Run → Phase → Run
 in_phase r phase = record r { phase = phase }

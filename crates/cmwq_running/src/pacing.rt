@@ -2,7 +2,7 @@
 ghost use Rattle.cmwq_phased.specs.declared.pools.TheConstants.{MAX_POOLS};
 ghost use Rattle.cmwq_phases.specs.Phases.{IsTimely, shown_all};
 ghost use Rattle.cmwq_phases.specs.Runs.{is_ready, run_at, with_run};
-ghost use Rattle.cmwq_running.specs.Heads.{AreTimely, GoIn, HaveHeads, IsBeside, IsEarly, may_burn, paced, paced_run, ready_run, with_left};
+ghost use Rattle.cmwq_running.specs.Heads.{AreTimely, GoIn, HaveHeads, IsBeside, IsEarly, is_out_of_pace, may_burn, paced, paced_run, ready_run, with_left};
 ghost use Rattle.cmwq_types.specs.Scenario.{is_high, is_unbound};
 ghost use Rattle.cmwq_types.specs.declared.limits.TheConstants.{MAX_WORKS};
 ghost use Rattle.std.specs.Prelude.{◌≡◌, ◌<◌, ◌⊎◌, ℕ, IfSome, false, length, slice_set, true};
@@ -72,7 +72,7 @@ fn is_ready(run: Option<Run>) -> bool
     }
 }
 
-/// Lets a work that has ticks left burn from now on, or hold.
+/// Lets a work that has ticks left burn from now on, or hold. Where it does so already nothing is touched.
 fn pace(works: &mut PhasedWorks, time: u64, w: usize, may: bool)
     requires work { w < length works.old.scenario.works }
     requires early { IsEarly time }
@@ -81,12 +81,14 @@ fn pace(works: &mut PhasedWorks, time: u64, w: usize, may: bool)
     ensures timely { AreTimely time works.new.runs }
 {
     match works.run(w) {
-        Some(run) if is_otherwise(run.phase, may) => repace(works, time, w, may),
+        Some(run) if is_out_of_pace(run.phase, may) => repace(works, time, w, may),
         _ => {}
     }
 }
 
-fn is_otherwise(phase: Phase, may: bool) -> bool
+/// Whether a work in this phase is held though it may burn, or burns though it may not.
+fn is_out_of_pace(phase: Phase, may: bool) -> bool
+    ensures { result ≡ is_out_of_pace may phase }
 {
     match phase {
         Phase::Held(_) => may,
@@ -95,8 +97,15 @@ fn is_otherwise(phase: Phase, may: bool) -> bool
     }
 }
 
+/// Lets the work carry on in the phase that it has once it may burn from now on, or may not. It is called, and not written out where a head is
+/// paced: few heads are out of pace.
 #[inline(never)]
 fn repace(works: &mut PhasedWorks, time: u64, w: usize, may: bool)
+    requires work { w < length works.old.scenario.works }
+    requires early { IsEarly time }
+    requires timely { AreTimely time works.old.runs }
+    ensures paced { works.new ≡ record works.old { runs = slice_set works.old.runs w (paced_run may time (run_at works.old.runs w)) } }
+    ensures timely { AreTimely time works.new.runs }
 {
     works.own_stamps();
     match works.run(w) {

@@ -147,7 +147,7 @@ impl RunningWorks {
         requires queue { queue < length self.now.scenario.queues }
         ensures { result ≡ has_free_rescuer self.now.scenario (state_of self.now) queue }
     {
-        self.works.scenario().queues[usize::from(queue)].flags.mem_reclaim && self.works.rescued_of(queue) == 0
+        has_rescuer(self.works.scenario(), queue) && self.works.rescued_of(queue) == 0
     }
 
     /// How many works of freezable queues run.
@@ -253,4 +253,13 @@ impl RunningWorks {
         let ended = end_by(works, *time);
         (count, ended)
     }
+}
+
+/// Whether a queue that there is has a rescuer.
+#[inline(always)]
+fn has_rescuer(scenario: &Scenario, queue: u8) -> bool
+    requires queue { queue < length scenario.now.queues }
+    ensures { result ≡ (flags_at scenario.now queue).mem_reclaim }
+{
+    scenario.queues[usize::from(queue)].flags.mem_reclaim
 }

@@ -1,5 +1,5 @@
 -- The words of a line, as they come from its pieces.
-use Rattle.std.proofs.Common.{◌≡◌, ℕ, ◌+◌, ◌<◌, ◌≤◌, Bool, true, false, cond, not, List, [], ◌∷◌, ◌++◌, length, take, drop, ◌-◌, position, Option, None, Some, refl, sym, ap, subst, ◌∙◌, append_assoc, append-nil, length-append, arith}
+use Rattle.std.proofs.Common.{◌≡◌, ℕ, ◌+◌, ◌<◌, ◌≤◌, Bool, true, false, cond, not, List, [], ◌∷◌, ◌++◌, length, slice_index, take, drop, ◌-◌, position, Option, None, Some, refl, sym, ap, subst, ◌∙◌, append_assoc, append-nil, length-append, arith}
 use Rattle.std.specs.Prelude.{MatchOption}
 use Rattle.std.specs.List.{All, AllPairs, filter, slice_split}
 use Rattle.std.proofs.lemmas.Bool.Decides.{nat_tests}
@@ -142,15 +142,25 @@ piece_front bytes piece rest None cut = ([], cut ∙ sym (append-nil piece))
 piece_front bytes piece rest (Some more) cut = (cut.0 ∷ bytes more, cut.1)
 
 -- a first piece that isn't empty is the first word
-pub front_word : (rest : List ℕ) (run : ℕ) → run < length rest → 0 < run → Nowhere (Passes is_blank rest) 0 (0 + run) → Passes is_blank rest (0 + run)
+pub word_before : (rest : List ℕ) (run : ℕ) → run < length rest → 0 < run → Nowhere (Passes is_blank rest) 0 run → Passes is_blank rest run
     → words_left rest ≡ take run rest ∷ words_left (take (length rest - (run + 1)) (drop (run + 1) rest))
-front_word rest run inside some passed blank =
-    let from : 0 + run ≡ run = omega arith in
-    let at : position is_blank rest ≡ Some run =
-    sym (first_byte-position is_blank rest (Some run) (record { low = omega arith; high = inside; before = subst (λ (to : ℕ). Nowhere (Passes is_blank rest) 0 to) from passed }, subst (λ (place : ℕ). Passes is_blank rest place) from blank)) in
+word_before rest run inside some passed blank =
+    let at : position is_blank rest ≡ Some run = sym (first_byte-position is_blank rest (Some run) (record { low = omega arith; high = inside; before = passed }, blank)) in
     let long : length (take run rest) ≡ run = grind (arith, common_steps) in
     let filled : is_empty (take run rest) ≡ false = grind (arith, nat_tests) in
     let behind = words_left (drop (run + 1) rest) in
     ap (λ (pieces : List (List ℕ)). filter (λ bytes. not (is_empty bytes)) pieces) (slice_split-position_some is_blank rest run at)
     ∙ ap (λ (empty : Bool). cond (not empty) (take run rest ∷ behind) behind) filled
     ∙ rest_is words_left (take run rest) (run + 1) rest
+
+-- the same, where its end was sought from the front
+pub front_word : (rest : List ℕ) (run : ℕ) → run < length rest → 0 < run → Nowhere (Passes is_blank rest) 0 (0 + run) → Passes is_blank rest (0 + run)
+    → words_left rest ≡ take run rest ∷ words_left (take (length rest - (run + 1)) (drop (run + 1) rest))
+front_word rest run inside some passed blank =
+    let from : 0 + run ≡ run = omega arith in
+    word_before rest run inside some (subst (λ (to : ℕ). Nowhere (Passes is_blank rest) 0 to) from passed) (subst (λ (place : ℕ). Passes is_blank rest place) from blank)
+
+-- the same, where a space ends it
+pub spaced_front : (rest : List ℕ) (end : ℕ) → end < length rest → 0 < end → Nowhere (Passes is_blank rest) 0 end → slice_index rest end ≡ 32
+    → words_left rest ≡ take end rest ∷ words_left (take (length rest - (end + 1)) (drop (end + 1) rest))
+spaced_front rest end inside some passed space = word_before rest end inside some passed (ap is_blank space)

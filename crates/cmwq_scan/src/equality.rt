@@ -5,8 +5,8 @@ ghost use Rattle.std.specs.Str.{bytes_eq};
 
 /// Whether both words are the same.
 ///
-/// Of words of four to sixteen bytes the first four or eight are compared as one number, and so are the last, some of which may be among
-/// the first.
+/// Where they are of one length, four to sixteen bytes, the first four or eight are compared as one number, and so are the last, some of which may be
+/// among the first.
 #[inline(always)]
 pub fn is_same(one: &[u8], other: &[u8]) -> bool
     ensures { result ≡ bytes_eq one.now other.now }

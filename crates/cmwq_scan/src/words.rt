@@ -21,7 +21,8 @@ pub fn next_word<'t>(rest: &'t [u8]) -> Option<(&'t [u8], &'t [u8])>
     }
 }
 
-/// The word that stands at the very front, if it and a blank are among the bytes that are looked at together.
+/// The word that stands at the very front, if it and a blank are among the bytes that are looked at together, or, where fewer are left, if a space is
+/// right behind it.
 #[inline(always)]
 fn front_word<'t>(rest: &'t [u8]) -> Option<(&'t [u8], &'t [u8])>
     ensures words { IfSome result (λ found. words_left rest.now ≡ found.0.now ∷ words_left found.1.now) }
@@ -37,15 +38,19 @@ fn front_word<'t>(rest: &'t [u8]) -> Option<(&'t [u8], &'t [u8])>
     Some((&rest[..run], &rest[run + 1..]))
 }
 
-/// The word that stands at the very front of few bytes, if a space is behind it.
+/// The word that stands at the very front of few bytes, if a space is right behind it. They are looked at one by one, and the first that is a space
+/// or lower ends the search.
 #[inline(always)]
+#[tactic(auto, using(crate::proofs::TokenLemmas::spaced_front))]
 fn short_word<'t>(rest: &'t [u8]) -> Option<(&'t [u8], &'t [u8])>
+    ensures words { IfSome result (λ found. words_left rest.now ≡ found.0.now ∷ words_left found.1.now) }
+    ensures shorter { IfSome result (λ found. length found.1.now < length rest.now) }
 {
-    let run = next_low(rest, 0);
-    if run == 0 || run == rest.len() || rest[run] != b' ' {
+    let end = next_low(rest, 0);
+    if end == 0 || end == rest.len() || rest[end] != b' ' {
         return None;
     }
-    Some((&rest[..run], &rest[run + 1..]))
+    Some((&rest[..end], &rest[end + 1..]))
 }
 
 /// The next word, whatever stands before and behind it, and what is left behind it.

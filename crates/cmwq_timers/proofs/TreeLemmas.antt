@@ -60,7 +60,7 @@ pub record IsOnTheWay (was ranks : List ℕ) (leaf rank at : ℕ) : Type 0 where
   pub given : HasGiven was ranks leaf rank
   pub but : IsTreeBut ranks at
 
-sets-out : (ranks : List ℕ) (leaf rank : ℕ) → IsTree ranks → IsLeaf ranks leaf → IsOnTheWay ranks (set ranks leaf rank) leaf rank (leaf / 2)
+pub sets-out : (ranks : List ℕ) (leaf rank : ℕ) → IsTree ranks → IsLeaf ranks leaf → IsOnTheWay ranks (set ranks leaf rank) leaf rank (leaf / 2)
 sets-out ranks leaf rank tree is =
     let long = length-set ranks leaf rank in
     let inside = is.inside in
@@ -78,7 +78,7 @@ sets-out ranks leaf rank tree is =
       but = λ i low inner apart. unmoved ranks leaf rank inside i (λ same. absurd (omega (arith, same, inner, above, long))) apart (tree i low (omega (arith, inner, long)));
     }
 
-goes-up : (was ranks : List ℕ) (leaf rank at next : ℕ) → IsOnTheWay was ranks leaf rank at → 0 < at → next ≡ min (rank_at ranks (2 * at)) (rank_at ranks (2 * at + 1))
+pub goes-up : (was ranks : List ℕ) (leaf rank at next : ℕ) → IsOnTheWay was ranks leaf rank at → 0 < at → next ≡ min (rank_at ranks (2 * at)) (rank_at ranks (2 * at + 1))
     → IsOnTheWay was (set ranks at next) leaf rank (at / 2)
 goes-up was ranks leaf rank at next way low lesser =
     let long = length-set ranks at next in
@@ -104,7 +104,7 @@ goes-up was ranks leaf rank at next way low lesser =
           ];
     }
 
-ends : (was ranks : List ℕ) (leaf rank at : ℕ) → IsOnTheWay was ranks leaf rank at → (0 < at → HasLesser ranks at) → IsTree ranks
+pub ends : (was ranks : List ℕ) (leaf rank at : ℕ) → IsOnTheWay was ranks leaf rank at → (0 < at → HasLesser ranks at) → IsTree ranks
 ends was ranks leaf rank at way here i above inner =
     elim (cases_eq i at) [
       | inl same ↦ subst (HasLesser ranks) (sym same) (here (omega (arith, same, above)))

@@ -1,4 +1,4 @@
-//! The tree of the alarms' ranks. Those of two alarms differ, so a node has the rank of one only where it stands above its leaf.
+//! The tree of the alarms' ranks, as an alarm is set or stopped.
 ghost use Rattle.cmwq_timers.specs.AlarmRanks.{no_alarm};
 ghost use Rattle.cmwq_timers.specs.Tree.{HasGiven, IsLeaf, IsTree, node_beside, rank_at};
 ghost use Rattle.std.specs.Prelude.{◌≡◌, ◌≤◌};
@@ -25,7 +25,8 @@ pub(crate) fn lower_alarm(ranks: &mut [u64], leaf: usize, rank: u64)
     }
 }
 
-/// Gives a leaf the rank of no alarm, and each node above that had the leaf's the lesser of the two below it.
+/// Gives a leaf the rank of no alarm, and each node above it the lesser of the two below, up to the root: the alarm that is stopped is nearly always
+/// the first of all, whose rank each of them had.
 ///
 /// Which of two ranks is the lesser can't be foretold, so it is found without a jump. The one of the step before is kept: of the two below a node
 /// only the other is read.
