@@ -1,6 +1,7 @@
 use Rattle.std.proofs.Common.{◌≡◌, ℕ, ◌-◌, ◌^◌, ◌<◌, ◌≤◌, ◌&&◌, ◌⊎◌, Option, None, Bool, true, false, cond, length, arith, refl, sym, ap, subst, ◌∙◌, inl, inr}
 use Rattle.std.specs.Int.{bit_at}
 use Rattle.std.specs.Prelude.{◌==◌, is_some, nat_lt}
+use Rattle.std.proofs.lemmas.Bool.{cases_lt}
 use Rattle.std.proofs.lemmas.Bool.Decides.{nat_tests}
 use Rattle.std.proofs.lemmas.Nat.Bits.{bit_at_ones, bit_at_ones_above}
 use Rattle.cmwq_types.specs.Scenario.{pool_count}
@@ -40,6 +41,13 @@ bit_inside pools pool few inside = ap (λ n. bit_at n pool == 1) (bits_are pools
 bit_outside : (pools pool : ℕ) → pools < 64 → pools ≤ pool → (bit_at (pool_bits pools) pool == 1) ≡ false
 bit_outside pools pool few outside = ap (λ n. bit_at n pool == 1) (bits_are pools few) ∙ ap (λ bit. bit == 1) (bit_at_ones_above pools pool outside)
 
+has_bit : (pools pool : ℕ) → pools < 64 → (bit_at (pool_bits pools) pool == 1) ≡ true → pool < pools
+has_bit pools pool few has = by_order (cases_lt pool pools)
+  where
+    by_order : (pool < pools) ⊎ (pools ≤ pool) → pool < pools
+    by_order (inl there) = there
+    by_order (inr past) = absurd (let no = sym (bit_outside pools pool few past) ∙ has in cc)
+
 pub returns-clause-covered : goal.returns-clause-covered
 returns-clause-covered c pool below some =
     let inside = c.self.inside in
@@ -54,9 +62,10 @@ returns-clause-covered c pool below some =
     (ap (λ n. bit_at n pool == 1) c.pool_bits.ensures ∙ bit_inside (length inside.workers.made) pool (omega (arith, made, cpus)) (omega (arith, made, there)))
 
 pub returns-clause-in_range : goal.returns-clause-in_range
-returns-clause-in_range c pool small has = by_order (cases_lt pool (pool_count c.self.inside.queued.scenario))
-  where
-    inside = c.self.inside
-    by_order : (pool < pool_count inside.queued.scenario) ⊎ (pool_count inside.queued.scenario ≤ pool) → _
-    by_order (inl there) = subst (λ (m : Loaded). pool < pool_count m.scenario) c.self.view_is there
-    by_order (inr past) = absurd (cc)
+returns-clause-in_range c pool small has =
+    let inside = c.self.inside in
+    let cpus : inside.queued.scenario.cpus ≤ MAX_CPUS = c.self.invariant.laid.sized.setting.cpus in
+    let made = c.self.invariant.laid.sized.made_long in
+    let bit = sym (ap (λ n. bit_at n pool == 1) c.pool_bits.ensures) ∙ second (has_pool inside.moving pool) (bit_at c.pool_bits.result pool == 1) (sym (c.common.ensures pool) ∙ has) in
+    let there = has_bit (length inside.workers.made) pool (omega (arith, made, cpus)) bit in
+    subst (λ (m : Loaded). pool < pool_count m.scenario) c.self.view_is (omega (arith, made, there))
