@@ -6,7 +6,8 @@ SIZE is about how many instructions the scenario's actor has; of f_list, the lar
 actor's name, and of f_run, its other text, how many comments. What isn't named has the size of the table below. Each NAME.cmwq has a companion NAME.empty, which is the same but for its actor, who has no lines;
 those of f_list and f_run have no comments either.
 
-The sizes are small, so that a program that scans its works for each instruction can be measured, too."""
+The sizes are small, so that a program that scans its works for each instruction can be measured, too. Those that grow have more instructions, so
+that the lines that first queue each work are few among them."""
 import pathlib
 import sys
 
@@ -26,16 +27,16 @@ SIZES = {
     "g_events": 10_000,
     "g_short": 20_000,
     "g_state": 30_000,
-    "works_4": 8_000,
-    "works_16": 8_000,
-    "works_64": 8_000,
-    "works_256": 8_000,
-    "cpus_1": 8_000,
-    "cpus_4": 8_000,
-    "cpus_16": 8_000,
-    "sleepers_1": 8_000,
-    "sleepers_8": 8_000,
-    "sleepers_64": 8_000,
+    "works_4": 80_000,
+    "works_16": 80_000,
+    "works_64": 80_000,
+    "works_256": 80_000,
+    "cpus_1": 80_000,
+    "cpus_4": 80_000,
+    "cpus_16": 80_000,
+    "sleepers_1": 80_000,
+    "sleepers_8": 80_000,
+    "sleepers_64": 80_000,
 }
 
 

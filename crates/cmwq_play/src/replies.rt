@@ -48,6 +48,7 @@ impl Teller for Replies {
     ) -> Result<(), PlayError> {
         match instr {
             Instr::Next => session.go_times(times),
+            _ if times == 1 => self.issue(session, instr),
             _ => session.repeat_times(instr, times),
         }
     }
