@@ -106,8 +106,8 @@ pub(crate) fn line_up_in_pool(
     }
 }
 
-/// Whether it's known at once that a work that stays in its pool, an unbound or a bound one, stays in its place: who has nothing left to burn
-/// stands in line by his stamp, and in a bound one so does who is awake.
+/// Whether it's known at once that a work that stays in its pool, an unbound or a bound one, stays in its place: who is awake with nothing left to
+/// burn stands in line by his stamp, and in a bound one so does who has ticks left.
 #[inline(always)]
 fn stays_in_line(unbound: bool, was: Run, run: Run) -> bool
     requires pool { run.pool ≡ was.pool }

@@ -1,3 +1,5 @@
 pub mod AlarmLemmas
+pub mod FirstAlarmLemmas
+pub mod FrontLemmas
 pub mod LeastLemmas
 pub mod TreeLemmas

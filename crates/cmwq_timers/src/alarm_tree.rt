@@ -26,7 +26,7 @@ pub(crate) fn lower_alarm(ranks: &mut [u64], leaf: usize, rank: u64)
 }
 
 /// Gives a leaf the rank of no alarm, and each node above it the lesser of the two below, up to the root: the alarm that is stopped is nearly always
-/// the first of all, whose rank each of them had.
+/// the first in the tree, whose rank each of them had.
 ///
 /// Which of two ranks is the lesser can't be foretold, so it is found without a jump. The one of the step before is kept: of the two below a node
 /// only the other is read.
