@@ -49,7 +49,7 @@ returns-clause-front g c =
     same front)) c.hold.ensures.front
 
 pub returns-clause-answered : goal.returns-clause-answered
-returns-clause-answered g c = λ is actor runs.
+returns-clause-answered g c =
     let M = c.args.manner in
     let S = c.args.scenario in
     let contents = g.W.Write.contents in
@@ -57,6 +57,7 @@ returns-clause-answered g c = λ is actor runs.
     let same : c.deref-2.result.now ≡ S = search rules in
     let first : c.index.result.now ≡ slice_index_or S.actors 0 c.index.result.now = search rules in
     let made = c.in_ok-debugger.ensures ∙ ap (λ (T : ScenarioContents). opened T (expand c.index.result.now)) kept in
+    λ is actor runs.
     subst (λ (d : Session). HasBegun (g.R.Read.remaining c.args.commands.now) (g.R.Read.remaining c.hold.new.commands) (contents c.args.writer.now) (contents c.hold.new.writer) M S d)
     (opened_is S c.index.result.now actor c.in_ok-debugger.debugger first made runs.alone)
     (subst (λ (T : ScenarioContents). HasBegun (g.R.Read.remaining c.args.commands.now) (g.R.Read.remaining c.hold.new.commands) (contents c.args.writer.now) (contents c.hold.new.writer) M T c.in_ok-debugger.debugger)
