@@ -1,8 +1,10 @@
--- A command more.
-use Rattle.std.proofs.Common.{◌≡◌, ◌∙◌, ap}
-use Rattle.clap.specs.Words.{AddsSubcommand, App, app_of, shape_of, with_subcommand}
+-- A command more, and an argument more.
+use Rattle.std.proofs.Common.{◌≡◌, ◌∙◌, ◌||◌, Bool, IfOk, Result, ap, ℕ}
+use Rattle.std.proofs.lemmas.Result.{IfOk-weaker}
+use Rattle.clap.specs.Words.{AddsArg, AddsSubcommand, App, Rule, Text, app_of, rule_of, shape_of, with_rule, with_subcommand}
+use Rattle.clap.specs.declared.builder.arg.Arg.{Arg}
 use Rattle.clap.specs.declared.builder.command.Command.{Command}
-use Rattle.cmwq_command_line.specs.CommandLine.{IsCommand}
+use Rattle.cmwq_command_line.specs.CommandLine.{IsArgument, IsCommand, several_rule}
 
 pub joined : (old sub new : Command) (before more : App) → app_of old ≡ before → IsCommand more sub → AddsSubcommand old sub new
     → app_of new ≡ with_subcommand before more.top
@@ -10,3 +12,31 @@ joined old sub new before more program command adds =
     adds.shape command.1
     ∙ ap (λ (app : App). with_subcommand app (shape_of sub)) program
     ∙ ap (λ (app : App). with_subcommand before app.top) command.0
+
+-- an argument with this change
+pub changed : (old new : Arg) (rule : Rule) (change : Rule → Rule) → IsArgument rule old → rule_of new ≡ change (rule_of old) → new.global ≡ old.global
+    → IsArgument (change rule) new
+changed old new rule change argument same global = (same ∙ ap change argument.0, global ∙ argument.1)
+
+-- an argument with so many values
+pub spanning : (arg : Arg) (id name : Text) (start end least most : ℕ) → start ≡ least → end ≡ most → IsArgument (several_rule id name start end) arg
+    → IsArgument (several_rule id name least most) arg
+spanning arg id name start end least most begins ends argument = (
+  argument.0 ∙ ap (λ (n : ℕ). several_rule id name n end) begins ∙ ap (λ (n : ℕ). several_rule id name least n) ends,
+  argument.1,
+)
+
+pub given : (old new : Command) (arg : Arg) (before : App) (rule : Rule) → IsCommand before old → IsArgument rule arg → AddsArg old arg new
+    → IsCommand (with_rule before rule) new
+given old new arg before rule command argument adds = (
+  adds.shape argument.1
+      ∙ ap (λ (app : App). with_rule app (rule_of arg)) command.0
+      ∙ ap (λ (one : Rule). with_rule before one) argument.0,
+  adds.globals ∙ ap (λ (has : Bool). has || arg.global) command.1 ∙ argument.1,
+)
+
+-- the same, where there may be no memory for it
+pub given_last : {E : Type 0} (old : Command) (arg : Arg) (before : App) (rule : Rule) (result : Result Command E) → IsCommand before old → IsArgument rule arg
+    → IfOk result (λ new. AddsArg old arg new) → IfOk result (λ new. IsCommand (with_rule before rule) new)
+given_last old arg before rule result command argument added =
+    IfOk-weaker result (λ new. AddsArg old arg new) (λ new. IsCommand (with_rule before rule) new) (λ new adds. given old new arg before rule command argument adds) added

@@ -27,6 +27,7 @@ fn twelve_commands<'a>(alloc: Global) -> Result<Command<'a>, AllocError>
         alloc,
         "settle",
         "Writes a scenario's listing with as many `next` more as make the machine quiet",
+        help::SETTLE,
     );
     let program = eight_commands(alloc)?
         .subcommand(settle?)?
@@ -56,6 +57,7 @@ fn four_commands<'a>(alloc: Global) -> Result<Command<'a>, AllocError>
         alloc,
         "list",
         "Writes a scenario's listing to standard output",
+        help::LIST,
     );
     let program = bare_program(alloc)
         .subcommand(new_command(alloc)?)?
@@ -90,6 +92,7 @@ fn new_command<'a>(alloc: Global) -> Result<Command<'a>, AllocError>
         alloc,
         "new",
         "Writes a scenario to start from, with comments",
+        help::NEW,
     )
     .arg(file)
 }
@@ -102,6 +105,7 @@ fn run_command<'a>(alloc: Global) -> Result<Command<'a>, AllocError>
         alloc,
         "run",
         "Runs a scenario and writes its events to standard output",
+        help::RUN,
     )?
     .arg(settle_flag(alloc))?
     .arg(flag(
@@ -115,7 +119,7 @@ fn run_command<'a>(alloc: Global) -> Result<Command<'a>, AllocError>
 fn asm_command<'a>(alloc: Global) -> Result<Command<'a>, AllocError>
     ensures { IfOk result (IsCommand asm_command) }
 {
-    on_text(alloc, "asm", "Makes the image of a scenario")?.arg(argument(
+    on_text(alloc, "asm", "Makes the image of a scenario", help::ASM)?.arg(argument(
         alloc,
         "OUT",
         "The image file to make. What it held is lost, even where FILE has a fault; it can't be FILE itself",
@@ -130,6 +134,7 @@ fn show_command<'a>(alloc: Global) -> Result<Command<'a>, AllocError>
         alloc,
         "show",
         "Writes the listing of an image's scenario to standard output",
+        help::SHOW,
     )
     .arg(argument(alloc, "IMAGE", "The scenario's image"))
 }
@@ -142,6 +147,7 @@ fn debug_command<'a>(alloc: Global) -> Result<Command<'a>, AllocError>
         alloc,
         "debug",
         "Carries out commands of standard input on a scenario's run, forwards and back",
+        help::DEBUG,
     )?
     .arg(settle_flag(alloc))
 }
@@ -159,6 +165,7 @@ fn play_command<'a>(alloc: Global) -> Result<Command<'a>, AllocError>
         alloc,
         "play",
         "Carries out all actors of a scenario at once, and writes the order that came out, as a scenario of one actor",
+        help::PLAY,
     )?
     .arg(capacity.long("capacity"))
 }
@@ -172,6 +179,7 @@ fn check_command<'a>(alloc: Global) -> Result<Command<'a>, AllocError>
         alloc,
         "check",
         "Tells of each scenario's text whether it is good, or where its first fault is",
+        help::CHECK,
     )
     .arg(files.action(ArgAction::Append))
 }
@@ -214,6 +222,7 @@ fn spanned_command<'a>(alloc: Global) -> Result<Command<'a>, AllocError>
         alloc,
         "draw",
         "Draws a scenario's run: a row a work, a column a tick",
+        help::DRAW,
     )?
     .arg(settle_flag(alloc))?
     .arg(flag(alloc, "svg", "Writes an SVG picture"))?
@@ -244,6 +253,7 @@ fn asking_command<'a>(alloc: Global) -> Result<Command<'a>, AllocError>
         alloc,
         "why",
         "Tells why a work doesn't get on, or what a flush waits for, wherever that changes",
+        help::WHY,
     )?
     .arg(work)?
     .arg(valued(
@@ -298,6 +308,7 @@ fn never_command<'a>(alloc: Global) -> Result<Command<'a>, AllocError>
         alloc,
         "explore",
         "Tells whether some order of the actors' instructions comes to what never may be, and shows the shortest",
+        help::EXPLORE,
     )?
     .arg(valued(
         alloc,
@@ -329,6 +340,7 @@ fn times_command<'a>(alloc: Global) -> Result<Command<'a>, AllocError>
         alloc,
         "times",
         "Tells of each request for a work how long it waited, for what, burned and slept, and sums of queues and CPUs",
+        help::TIMES,
     )?
     .arg(flag(alloc, "json", "Writes each line as a JSON object"))?
     .arg(flag(alloc, "whom", "Tells for whom works waited, too"))?
@@ -343,6 +355,7 @@ fn trace_command<'a>(alloc: Global) -> Result<Command<'a>, AllocError>
         alloc,
         "trace",
         "Writes a scenario's run for the tools that show a kernel's traces",
+        help::TRACE,
     )?
     .arg(flag(
         alloc,
@@ -363,20 +376,23 @@ fn trace_command<'a>(alloc: Global) -> Result<Command<'a>, AllocError>
     ))
 }
 
-/// A command on the text of a scenario.
-fn on_text<'a>(alloc: Global, name: &'a str, about: &'a str) -> Result<Command<'a>, AllocError>
+/// A command on the text of a scenario, what it is about in a line, and what follows its help.
+fn on_text<'a>(
+    alloc: Global,
+    name: &'a str,
+    about: &'a str,
+    help: &'a str,
+) -> Result<Command<'a>, AllocError>
     ensures { IfOk result (IsCommand (command_on name.entry.now (codes "FILE"))) }
 {
-    command(alloc, name, about).arg(argument(alloc, "FILE", "The scenario's text"))
+    command(alloc, name, about, help).arg(argument(alloc, "FILE", "The scenario's text"))
 }
 
-/// A command that takes nothing.
-fn command<'a>(alloc: Global, name: &'a str, about: &'a str) -> Command<'a>
+/// A command that takes nothing, what it is about in a line, and what follows its help.
+fn command<'a>(alloc: Global, name: &'a str, about: &'a str, help: &'a str) -> Command<'a>
     ensures { IsCommand (new_app name.entry.now) result }
 {
-    Command::new(alloc, name)
-        .about(about)
-        .after_help(help::after_help_of(name))
+    Command::new(alloc, name).about(about).after_help(help)
 }
 
 /// An argument that has to be given.

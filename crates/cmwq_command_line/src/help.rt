@@ -38,7 +38,8 @@ Exit status:
   5  an order was found that comes to what never may be
   6  it holds of the orders that were looked at, and isn't told of all";
 
-const NEW: &str = "\
+/// What follows the help of `new`.
+pub const NEW: &str = "\
 Prints the scenario where there is no FILE, and else nothing.
 
 Exit status:
@@ -49,7 +50,8 @@ Exit status:
 Example:
   cmwq new first.cmwq";
 
-const RUN: &str = "\
+/// What follows the help of `run`.
+pub const RUN: &str = "\
 Prints a line for each thing that happens: the time, the work, and what it did. With --settle it goes on by `next` behind the
 actor's instructions, until no work is pending and none runs. With --tell each instruction stands before its line, behind its position,
 and behind it what it changed unseen: works placed or activated, timers set, the workers of those that start, time passed. These lines
@@ -68,7 +70,8 @@ Examples:
   cmwq run --settle scenarios/activation_order.cmwq
   cmwq run --tell scenarios/max_active_1.cmwq";
 
-const SETTLE: &str = "\
+/// What follows the help of `settle`.
+pub const SETTLE: &str = "\
 Prints the scenario's canonical text, with lines of `next` behind the actor's: the fewest with which the run ends quiet, that is with
 no work pending and none running. Running it prints what `cmwq run --settle FILE` prints.
 
@@ -83,7 +86,8 @@ Exit status:
 Example:
   cmwq settle scenarios/activation_order.cmwq";
 
-const DRAW: &str = "\
+/// What follows the help of `draw`.
+pub const DRAW: &str = "\
 Prints a row for each work that was pending or ran, with a column for each tick, and below the rows of the CPUs and of the actor. The
 last lines say what the signs mean, and what the actor did. With --fold each gap of more than 20 ticks in which nothing changes is one
 column; where more than 500 columns would be drawn, and not both of --from and --to are given, that is done unasked.
@@ -104,7 +108,8 @@ Examples:
   cmwq draw --from 10 --to 20 scenarios/max_active_3.cmwq
   cmwq draw --svg scenarios/max_active_3.cmwq > max_active_3.svg";
 
-const WHY: &str = "\
+/// What follows the help of `why`.
+pub const WHY: &str = "\
 Prints why WORK doesn't get on, as `at K now N WORK REASON`: K instructions have been carried out, and it is tick N. There is a line for
 the first settled position, where no timer is due and no pool has a move, and one for each further one at which the reason changed; the
 run's last position is looked at too. With --every each position is, with --at K position K alone, and with --time T the settled ones of
@@ -129,7 +134,8 @@ Examples:
   cmwq why --every scenarios/queued_between.cmwq a
   cmwq why --flush 0 scenarios/holds_the_limit.cmwq";
 
-const EXPLORE: &str = "\
+/// What follows the help of `explore`.
+pub const EXPLORE: &str = "\
 Looks at every order in which the actors' instructions can come, with the moves of pools, the timers and the ticks in between in every order
 too. With --never WORK it asks whether the work runs in any of them, with two works whether they run at once, with --after ACTOR
 and --never WORK whether the work is pending or runs where the actor has ended, and with --stuck whether some actor hasn't ended
@@ -159,7 +165,8 @@ Examples:
   cmwq explore scenarios/poll_cancel.cmwq --never poll --limit 1000
   cmwq explore scenarios/poll_cancel.cmwq --stuck";
 
-const TIMES: &str = "\
+/// What follows the help of `times`.
+pub const TIMES: &str = "\
 Prints of each request for a work how many ticks it waited on its timer, inactive, on a worklist, deferred, and for the CPU, how many it
 burned and slept, and whether it was finished or cancelled, or is still there: a line each, as it ends. Then come sums of each queue, CPU
 and unbound pool. With --json each line is a JSON object, with the same words. With --whom it is told for whom each work waited, too.
@@ -178,7 +185,8 @@ Examples:
   cmwq times scenarios/holds_the_limit.cmwq --whom
   cmwq times scenarios/holds_the_limit.cmwq --sweep q 1..3";
 
-const TRACE: &str = "\
+/// What follows the help of `trace`.
+pub const TRACE: &str = "\
 With --json it prints what each work did and waited for, and what each worker executed, as slices in Chrome's trace event format: Perfetto's
 page and chrome://tracing open it. A tick is a millisecond. With --lines it prints a JSON object a line for each event that `run` prints.
 With --text it prints the workqueue events as a kernel's trace file shows them, and with --dat OUT it makes the file OUT of the same events,
@@ -196,7 +204,8 @@ Examples:
   cmwq trace scenarios/holds_the_limit.cmwq --text
   cmwq trace scenarios/holds_the_limit.cmwq --dat holds_the_limit.dat";
 
-const LIST: &str = "\
+/// What follows the help of `list`.
+pub const LIST: &str = "\
 Prints the scenario's canonical text: one space between words, and no comments.
 
 Exit status:
@@ -209,7 +218,8 @@ Exit status:
 Example:
   cmwq list scenarios/max_active_3.cmwq";
 
-const ASM: &str = "\
+/// What follows the help of `asm`.
+pub const ASM: &str = "\
 Prints nothing.
 
 Exit status:
@@ -222,7 +232,8 @@ Exit status:
 Example:
   cmwq asm scenarios/max_active_3.cmwq max_active_3.image";
 
-const SHOW: &str = "\
+/// What follows the help of `show`.
+pub const SHOW: &str = "\
 Prints the canonical text of the scenario in the image.
 
 Exit status:
@@ -235,7 +246,8 @@ Exit status:
 Example:
   cmwq show max_active_3.image";
 
-const DEBUG: &str = "\
+/// What follows the help of `debug`.
+pub const DEBUG: &str = "\
 Commands are lines of standard input: step N, back N, goto K, run, break work W event E, break time T,
 break refusal, break activates W, clear I, list, dump, dump pool P, why W, why flush F, help, quit. Prints the answer to each
 before the next is read. With --settle the run goes on by `next` behind the actor's instructions, until no work is pending and none runs.
@@ -251,7 +263,8 @@ Exit status:
 Example:
   cmwq debug scenarios/max_active_2.cmwq < scenarios/max_active_2.debug";
 
-const PLAY: &str = "\
+/// What follows the help of `play`.
+pub const PLAY: &str = "\
 Prints the listing of the same scenario with one actor, who gives the instructions in the order in which the machine took
 them, and behind it, as comments, the lines that running it prints.
 
@@ -265,7 +278,8 @@ Exit status:
 Example:
   cmwq play scenarios/race.cmwq --capacity 100";
 
-const CHECK: &str = "\
+/// What follows the help of `check`.
+pub const CHECK: &str = "\
 Prints of each file: `FILE: ok` on standard output, or on standard error where the text's first fault is and why it is one, and in a
 second line what may stand there, as `  a line here may begin with: queue, work, actor`. Behind a good text's line stand notes, on standard
 error, where a kernel does otherwise than this program; they change no status.
@@ -280,24 +294,3 @@ Exit status:
 
 Example:
   cmwq check first.cmwq scenarios/race.cmwq";
-
-/// What follows the help of the command of this name.
-pub fn after_help_of(command: &str) -> &'static str {
-    match command {
-        "new" => NEW,
-        "run" => RUN,
-        "settle" => SETTLE,
-        "draw" => DRAW,
-        "why" => WHY,
-        "explore" => EXPLORE,
-        "times" => TIMES,
-        "trace" => TRACE,
-        "list" => LIST,
-        "asm" => ASM,
-        "show" => SHOW,
-        "debug" => DEBUG,
-        "play" => PLAY,
-        "check" => CHECK,
-        _ => "",
-    }
-}

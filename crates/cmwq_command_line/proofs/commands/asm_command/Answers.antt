@@ -1,0 +1,7 @@
+use Rattle.cmwq_command_line.proofs.CommandLemmas.{given_last}
+use Rattle.cmwq_command_line.proofs.commands.asm_command.Goals as goal
+
+pub returns : goal.returns
+returns c =
+    let whole = given_last _ c.argument.result _ _ _ c.in_ok-on_text.ensures c.argument.ensures c.arg.ensures in
+    whole
