@@ -1,8 +1,8 @@
 -- How a talk ends.
-use Rattle.std.proofs.Common.{◌≡◌, ◌↔◌, ◌⊎◌, inl, inr, ℕ, ◌+◌, ◌<◌, ◌≤◌, Bool, false, true, List, [], ◌++◌, drop, length, Option, None, Some, Result, Ok, Err, IfErr, IfSome, OnErr, OnOk, arith, refl, sym, ap, subst, ◌∙◌, ◌≢◌}
+use Rattle.std.proofs.Common.{◌≡◌, ◌↔◌, ◌⊎◌, inl, inr, ℕ, ◌+◌, ◌<◌, ◌≤◌, Bool, false, true, List, [], ◌++◌, drop, length, Option, None, Some, Result, Ok, Err, IfErr, IfSome, OnErr, OnOk, arith, refl, sym, ap, subst, ◌∙◌, ◌≢◌, true≢false}
 use Rattle.std.proofs.lemmas.Result.{on_err_weaker, on_ok_weaker}
 use Rattle.std.specs.Io.KnownBytes.{Appends, Consumes, IsAtEnd, Keeps}
-use Rattle.cmwq_types.specs.Contents.{ScenarioContents}
+use Rattle.cmwq_types.specs.Contents.{ActorContents, ScenarioContents}
 use Rattle.cmwq_types.specs.Scenario.{expand}
 use Rattle.cmwq_types.specs.declared.limits.TheConstants.{MAX_TEXT}
 use Rattle.cmwq_grammar.specs.Cutting.{lines_of}
@@ -12,8 +12,9 @@ use Rattle.cmwq_debug_lines.specs.declared.manner.Manner.{Manner}
 use Rattle.cmwq_streams.proofs.CallerLemmas.{appends_none}
 use Rattle.cmwq_streams.specs.Sending.{HasSentFront, IsSendError}
 use Rattle.cmwq_streams.specs.declared.error.PlayError.{PlayError}
-use Rattle.cmwq_streams.specs.declared.error.PlayError.TheVariants.{Read, Write, TooLong, NoMemory}
+use Rattle.cmwq_streams.specs.declared.error.PlayError.TheVariants.{Actors, Full, Read, Write, TooLong, NoMemory}
 use Rattle.cmwq_play.specs.Commands.{Reads}
+use Rattle.cmwq_play.specs.Runs.{CanRun, IsRefused, IsRunOf}
 use Rattle.cmwq_debug_session.specs.Told.{Holds, IsAnswered, IsFrontTold, IsTalkError, Talks, ToldFront, ToldToItsEnd}
 use Rattle.cmwq_play.proofs.CommandLemmas.{err_is, reads_err, reads_ok, sending_no_read}
 use Rattle.cmwq_debug_session.proofs.ToldLemmas.{consumes_more, ended_more_heard, front_behind, front_first, front_more_heard, front_so_far, front_whole, long_known, told_behind, told_whole}
@@ -156,8 +157,28 @@ holds_talk input left before begun after unreadable broken M S d r sent talks = 
   why = talks.why;
 }
 
--- nothing was said yet
-pub unsaid : (M : Manner) (S : ScenarioContents) (input now : Option (List ℕ)) (r : Result (Unit {0}) PlayError) → OnErr r (IsFrontTold M input now now S)
-unsaid M S input now (Ok x) = tt
-unsaid M S None now (Err error) = λ actor runs. tt
-unsaid M S (Some bytes) now (Err error) = λ actor runs. ([], debugged M S (expand actor) bytes, appends_none now, refl)
+-- memory ran out before anything was said
+pub holds_nothing : (input before : Option (List ℕ)) (unreadable broken : Bool) (M : Manner) (S : ScenarioContents) (d : Session) → unreadable ≡ false → broken ≡ false
+    → Holds input input before before unreadable broken M S d (Err NoMemory)
+holds_nothing input before unreadable broken M S d readable sound =
+    holds_unbegun input before before unreadable broken M S d NoMemory readable ([], opening M d, appends_none before, refl) tt
+    (λ is. cc, λ failed. elim (true≢false (sym failed ∙ sound)) [ ])
+
+-- A session that was held is one of a scenario that can be run.
+
+pub front_told : (M : Manner) (S : ScenarioContents) (input before after : Option (List ℕ)) (r : Result (Unit {0}) PlayError)
+    → ((actor : ActorContents) → IsRunOf S actor → OnErr r (IfSome input (λ bytes. HasSentFront before after (debugged M S (expand actor) bytes))))
+    → OnErr r (IsFrontTold M input before after S)
+front_told M S input before after (Ok x) front = tt
+front_told M S input before after (Err error) front = front
+
+pub why_told : (S : ScenarioContents) (r : Result (Unit {0}) PlayError) → CanRun S → IfErr r (λ error. IsTalkError error)
+    → IfErr r (λ error. IsRefused S error ⊎ (CanRun S × IsTalkError error))
+why_told S (Ok x) can why = tt
+why_told S (Err error) can why = inr (can, why)
+
+pub not_refused : (S : ScenarioContents) (r : Result (Unit {0}) PlayError) (Q : Type 0) → IfErr r (λ error. IsTalkError error) → IfErr r (λ error. IsRefused S error → Q)
+not_refused S (Ok x) Q why = tt
+not_refused S (Err Actors) Q why = elim why [ ]
+not_refused S (Err Full) Q why = elim why [ ]
+not_refused S (Err other) Q why = λ refused. elim refused [ ]

@@ -79,6 +79,11 @@ pub record Holds (input left before after : Option (List ℕ)) (unreadable broke
   pub write : (result ≡ Err errors.Write) ↔ (broken ≡ true)
   pub why : IfErr result (λ error. IsTalkError error)
 
+-- The same on a debugger of the one actor's instructions.
+abbrev pub HoldsOn : (input left before after : Option (List ℕ)) (unreadable broken : Bool) → Manner → ScenarioContents → Result (Unit {0}) PlayError → Type 0
+HoldsOn input left before after unreadable broken manner S result =
+    (actor : ActorContents) → IsRunOf S actor → Holds input left before after unreadable broken manner S (opened S (expand actor)) result
+
 -- The scenario can be debugged, and to the input, where it is known, was said in this manner what is to be said.
 abbrev pub IsDebugged : Manner → (input before after : Option (List ℕ)) → ScenarioContents → Type 0
 IsDebugged manner input before after S =

@@ -3,7 +3,7 @@ ghost use Rattle.cmwq_debug_lines.specs.Prompt.{line_told, lines_said, opening, 
 ghost use Rattle.cmwq_grammar.specs.Cutting.{lines_of};
 ghost use Rattle.cmwq_streams.specs.Sending.{HasSentFront, IsSendError};
 ghost use Rattle.cmwq_play.specs.Commands.{Reads};
-ghost use Rattle.cmwq_debug_session.specs.Told.{HasNoLine, Holds, IsFrontTold, IsTalkError, IsTalked, IsDebugged, Talks, Told, ToldFront, ToldToItsEnd};
+ghost use Rattle.cmwq_debug_session.specs.Told.{HasNoLine, Holds, HoldsOn, IsFrontTold, IsTalkError, IsTalked, IsDebugged, Talks, Told, ToldFront, ToldToItsEnd};
 ghost use Rattle.cmwq_play.specs.Runs.{CanRun, IsRefused, IsRunOf};
 ghost use Rattle.cmwq_debug.specs.Debugging.{opened};
 ghost use Rattle.cmwq_types.specs.Faults.{IsValid};
@@ -205,8 +205,25 @@ pub fn debug<R: Source, W: Sink>(
     ensures write { (result ≡ Err PlayError.Write) ↔ (W.failed writer.new ≡ true) }
 {
     judge(&scenario)?;
+    hold_on::<Core, R, W>(alloc, manner, scenario, commands, writer)
+}
+
+/// Holds a session on a debugger of the one actor's instructions.
+fn hold_on<M: Machine, R: Source, W: Sink>(
+    alloc: Global,
+    manner: Manner,
+    scenario: Scenario,
+    commands: &mut R,
+    writer: &mut W,
+) -> Result<(), PlayError>
+    requires valid { IsValid scenario }
+    requires can { CanRun scenario }
+    requires commands { R.failed commands.old ≡ false }
+    requires writer { W.failed writer.old ≡ false }
+    ensures { HoldsOn (R.remaining commands.old) (R.remaining commands.new) (W.contents writer.old) (W.contents writer.new) (R.failed commands.new) (W.failed writer.new) manner scenario result }
+{
     let scenario = Arc::new(alloc, scenario)?;
-    let mut debugger = opened::<Core>(alloc, &scenario, &scenario.actors[0])?;
+    let mut debugger = opened::<M>(alloc, &scenario, &scenario.actors[0])?;
     hold(alloc, manner, &scenario, &mut debugger, commands, writer)
 }
 

@@ -9,7 +9,6 @@ ghost use Rattle.std.specs.Prelude.{◌≡◌, ◌≤◌, ◌+◌, ◌*◌, ◌+
 ghost use Rattle.std.specs.Str.{IsAscii, IsUtf8};
 
 use cmwq_annotated::fit;
-use cmwq_core::Core;
 use cmwq_lines::{Block, ReplyLines};
 use cmwq_table::{Machine, is_silent};
 use cmwq_types::{Instr, NoMemory, Reply, Scenario};
@@ -18,7 +17,7 @@ use std::fmt::Write;
 use std::sync::Arc;
 
 /// The lines that running these instructions on the scenario prints, each after `# `.
-pub(crate) fn comments(
+pub(crate) fn comments<M: Machine>(
     alloc: Global,
     scenario: Scenario,
     instrs: &[Instr],
@@ -30,7 +29,7 @@ pub(crate) fn comments(
     ensures short { IfOk result (λ text. length text ≤ 256 * length instrs.now) }
 {
     let scenario = Arc::new(alloc, scenario)?;
-    let machine = Core::begin(alloc, Arc::clone(&scenario)?)?;
+    let machine: M = M::begin(alloc, Arc::clone(&scenario)?)?;
     comments_of(alloc, &scenario, machine, instrs)
 }
 

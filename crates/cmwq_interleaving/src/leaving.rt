@@ -8,6 +8,7 @@ ghost use Rattle.std.specs.Prelude.{◌≡◌, ◌≤◌, All, IfOk, IsTrue, len
 
 use crate::commenting::comments;
 use cmwq_annotated::acted;
+use cmwq_core::Core;
 use cmwq_grammar::laws::comments_may_follow_a_listing;
 use cmwq_list::list;
 use cmwq_types::{Instr, Name, NoMemory, Scenario};
@@ -36,7 +37,7 @@ pub fn played_text(
     };
     let played = acted(alloc, scenario, name, instrs)?;
     let mut text = list(alloc, &played)?;
-    let comments = comments(alloc, played, instrs)?;
+    let comments = comments::<Core>(alloc, played, instrs)?;
     text.extend_from_slice(comments.as_bytes())?;
     Ok(text)
 }

@@ -4,10 +4,10 @@ use crate::checking::same;
 use crate::debugging::instrs_of;
 use crate::examples::{EXAMPLES, Example};
 use crate::machines::{loaded, scenario, whole_view};
-use cmwq_core::Core;
+use cmwq_core::CoreParts;
 use cmwq_exec::Driven;
 use cmwq_parts::Parts;
-use cmwq_plain::Plain;
+use cmwq_records::Records;
 use cmwq_pool::Pool;
 use cmwq_table::{Machine, Reads};
 use std::alloc::Global;
@@ -39,20 +39,21 @@ fn check_pools<A: Parts, B: Parts>(rt: &impl Abort, one: &Driven<A>, other: &Dri
 }
 
 /// Carries out the example's instructions on both, and compares each reply, and what a look and the pools then show.
-fn check_alike(rt: &impl Abort, alloc: Global, example: &Example) {
+fn check_alike<A: Parts, B: Parts>(rt: &impl Abort, alloc: Global, example: &Example) {
     let instrs = instrs_of(rt, alloc, &scenario(rt, alloc, example.text));
-    let mut plain: Plain = loaded(rt, alloc, example.text);
-    let mut core: Core = loaded(rt, alloc, example.text);
+    let mut one: Driven<A> = loaded(rt, alloc, example.text);
+    let mut other: Driven<B> = loaded(rt, alloc, example.text);
     for instr in &instrs {
-        same(rt, *instr, core.exec(*instr), plain.exec(*instr));
-        same(rt, *instr, &whole_view(rt, &core), &whole_view(rt, &plain));
-        check_pools(rt, &core, &plain);
+        same(rt, *instr, one.exec(*instr), other.exec(*instr));
+        let view = whole_view(rt, &one);
+        same(rt, *instr, &view, &whole_view(rt, &other));
+        check_pools(rt, &one, &other);
     }
 }
 
 #[test]
 fn both_bodies_show_the_same(rt: HostRuntime) {
     for example in EXAMPLES {
-        check_alike(&rt, rt.alloc(), &example);
+        check_alike::<CoreParts, Records>(&rt, rt.alloc(), &example);
     }
 }
