@@ -138,7 +138,25 @@ fn search<M: Machine, P: Progress>(
     ensures comes { IfOk result (Comes plan.now.value question seen.new) }
     ensures full { (depth : ℕ) → result ≡ Ok (Ending.Deep depth) → IsFull limit seen.new depth }
 {
-    let mut waiting = Waiting::new(alloc);
+    let mut waiting: Waiting<M> = Waiting::new(alloc);
+    handle_all(alloc, plan, question, limit, seen, &mut waiting, progress)
+}
+
+/// The same, with the machines that wait to be gone on with.
+fn handle_all<M: Machine, P: Progress>(
+    alloc: Global,
+    plan: &Arc<Plan>,
+    question: Question,
+    limit: u32,
+    seen: &mut Seen,
+    waiting: &mut Waiting<M>,
+    progress: &mut P,
+) -> Result<Ending, NoMemory>
+    requires begins { Begins plan.now.value question seen.old false }
+    requires waiting { AreWaiting plan.now.value seen.old waiting.old }
+    ensures comes { IfOk result (Comes plan.now.value question seen.new) }
+    ensures full { (depth : ℕ) → result ≡ Ok (Ending.Deep depth) → IsFull limit seen.new depth }
+{
     for place in 0..limit as usize + 1 {
         let Some(mark) = seen.mark(place) else {
             return Ok(Ending::Closed);
@@ -150,7 +168,7 @@ fn search<M: Machine, P: Progress>(
             depth: mark.depth,
         };
         progress.tell(seen.len(), mark.depth);
-        match handle::<M>(alloc, plan, asked, seen, &mut waiting)? {
+        match handle::<M>(alloc, plan, asked, seen, waiting)? {
             Tried::Going => {}
             Tried::Failing => return Ok(Ending::Failed),
             Tried::Full => return Ok(Ending::Deep(mark.depth)),

@@ -10,8 +10,8 @@ use cmwq_core::Core;
 use cmwq_debug::Debugger;
 use cmwq_debug_lines::answer;
 use cmwq_plain::Plain;
-use cmwq_table::{LoadError, Machine};
-use cmwq_types::{Instr, MAX_HISTORY, MAX_WORKS, NoMemory, Scenario};
+use cmwq_table::Machine;
+use cmwq_types::{Instr, MAX_HISTORY, MAX_WORKS, Scenario};
 use std::alloc::Global;
 use std::process::Abort;
 
@@ -476,22 +476,21 @@ fn check_text<M: Machine>(rt: &impl Abort, alloc: Global, text: &[u8], talk: Tal
     check_talk::<M>(rt, alloc, talk, &scenario, instrs);
 }
 
-#[test]
-fn each_command_line_is_answered(rt: HostRuntime) {
-    check_text::<Plain>(&rt, rt.alloc(), MAX_ACTIVE_3.text, THERE_AND_BACK);
-    check_text::<Core>(&rt, rt.alloc(), MAX_ACTIVE_3.text, THERE_AND_BACK);
-    check_text::<Plain>(&rt, rt.alloc(), MAX_ACTIVE_3.text, OTHER_LINES);
-    check_text::<Core>(&rt, rt.alloc(), MAX_ACTIVE_3.text, OTHER_LINES);
-    check_text::<Plain>(&rt, rt.alloc(), MAX_ACTIVE_3.text, SHORT_LINES);
-    check_text::<Core>(&rt, rt.alloc(), MAX_ACTIVE_3.text, SHORT_LINES);
-    check_text::<Plain>(&rt, rt.alloc(), THREE_PLACED, ACTIVATION);
-    check_text::<Core>(&rt, rt.alloc(), THREE_PLACED, ACTIVATION);
-    check_text::<Plain>(&rt, rt.alloc(), TIMERS_OF_BODIES.text, TIMERS);
-    check_text::<Core>(&rt, rt.alloc(), TIMERS_OF_BODIES.text, TIMERS);
-    check_text::<Plain>(&rt, rt.alloc(), MANY_KINDS, EVERY_KIND);
-    check_text::<Core>(&rt, rt.alloc(), MANY_KINDS, EVERY_KIND);
-    check_text::<Plain>(&rt, rt.alloc(), A_FLUSH, A_WORK_CALLED_FLUSH);
-    check_text::<Core>(&rt, rt.alloc(), A_FLUSH, A_WORK_CALLED_FLUSH);
+/// Says each talk's lines to a debugger of its text, and compares what it says.
+fn check_talks<M: Machine>(rt: &impl Abort, alloc: Global) {
+    let talks = [
+        (MAX_ACTIVE_3.text, THERE_AND_BACK),
+        (MAX_ACTIVE_3.text, OTHER_LINES),
+        (MAX_ACTIVE_3.text, SHORT_LINES),
+        (THREE_PLACED, ACTIVATION),
+        (TIMERS_OF_BODIES.text, TIMERS),
+        (MANY_KINDS, EVERY_KIND),
+        (A_FLUSH, A_WORK_CALLED_FLUSH),
+        (A_LONG_WAIT, GOTOS),
+    ];
+    for (text, talk) in talks {
+        check_text::<M>(rt, alloc, text, talk);
+    }
 }
 
 /// Compares at which positions there are checkpoints. Only ticks pass, so the machine at each shows its position as its time.
@@ -521,52 +520,14 @@ fn check_way<M: Machine>(rt: &impl Abort, alloc: Global) {
     }
 }
 
+/// Each command line is answered, and checkpoints stand further apart on a long way.
+fn check_debugger<M: Machine>(rt: &impl Abort, alloc: Global) {
+    check_talks::<M>(rt, alloc);
+    check_way::<M>(rt, alloc);
+}
+
 #[test]
-fn checkpoints_stand_further_apart_on_a_long_way(rt: HostRuntime) {
-    check_way::<Plain>(&rt, rt.alloc());
-    check_way::<Core>(&rt, rt.alloc());
-}
-
-/// Says the line to a debugger, once more where memory was refused, and compares what it says.
-fn check_again<M: Machine>(
-    rt: &impl Abort,
-    alloc: Global,
-    scenario: &Scenario,
-    debugger: &mut Debugger<M>,
-    line: &str,
-    want: &[u8],
-)
-    requires { length scenario.now.works ≤ MAX_WORKS }
-{
-    let said = match answer(alloc, scenario, debugger, line.as_bytes()) {
-        Ok(said) => said,
-        Err(NoMemory) => {
-            answer(alloc, scenario, debugger, line.as_bytes()).expect(rt, "memory is left again")
-        }
-    };
-    let said = said.expect(rt, "the session goes on");
-    same(rt, line, &said[..], want);
-}
-
-/// Goes there and back, where an allocation may be refused on the way.
-fn check_gotos<M: Machine>(rt: &impl Abort, alloc: Global) {
-    let scenario = scenario(rt, alloc, A_LONG_WAIT);
-    let instrs = instrs_of(rt, alloc, &scenario);
-    if instrs.len() > MAX_HISTORY as usize || scenario.works.len() > MAX_WORKS {
-        return;
-    }
-    let opened: Result<Debugger<M>, LoadError> = Debugger::open(alloc, &scenario, instrs);
-    let Ok(mut debugger) = opened else {
-        return;
-    };
-    for (line, want) in GOTOS.lines {
-        check_again(rt, alloc, &scenario, &mut debugger, line, want);
-    }
-}
-
-/// With `--fail-alloc N` the N-th allocation is refused: a command that finds no memory says the same when it is said again.
-#[test]
-fn a_refused_command_can_be_said_again(rt: HostRuntime) {
-    check_gotos::<Plain>(&rt, rt.alloc());
-    check_gotos::<Core>(&rt, rt.alloc());
+fn a_debugger_of_either_body_answers(rt: HostRuntime) {
+    check_debugger::<Plain>(&rt, rt.alloc());
+    check_debugger::<Core>(&rt, rt.alloc());
 }

@@ -84,14 +84,6 @@ fn check_example<M: Machine>(rt: &impl Abort, alloc: Global, example: &Example) 
     check_history::<M>(rt, alloc, example, &scenario, &instrs, engine.history());
 }
 
-#[test]
-fn histories_of_the_examples_are_entered_one_by_one(rt: HostRuntime) {
-    for example in EXAMPLES {
-        check_example::<Plain>(&rt, rt.alloc(), &example);
-        check_example::<Core>(&rt, rt.alloc(), &example);
-    }
-}
-
 /// An engine with room for no entry takes none.
 fn check_full<M: Machine>(rt: &impl Abort, alloc: Global) {
     let scenario = scenario(rt, alloc, STEPS_RUN_OUT.text);
@@ -100,8 +92,16 @@ fn check_full<M: Machine>(rt: &impl Abort, alloc: Global) {
     same(rt, "no entry", engine.history().len(), 0);
 }
 
+/// The examples' histories are entered one by one, and an engine without room is full at once.
+fn check_engines<M: Machine>(rt: &impl Abort, alloc: Global) {
+    for example in EXAMPLES {
+        check_example::<M>(rt, alloc, &example);
+    }
+    check_full::<M>(rt, alloc);
+}
+
 #[test]
-fn an_engine_without_room_is_full_at_once(rt: HostRuntime) {
-    check_full::<Plain>(&rt, rt.alloc());
-    check_full::<Core>(&rt, rt.alloc());
+fn an_engine_of_either_body_enters_and_is_full(rt: HostRuntime) {
+    check_engines::<Plain>(&rt, rt.alloc());
+    check_engines::<Core>(&rt, rt.alloc());
 }

@@ -82,12 +82,6 @@ fn check_alone<M: Machine>(rt: &impl Abort, source: &mut M, copy: &mut M, before
     same(rt, "both went on", &view, &whole_view(rt, copy));
 }
 
-#[test]
-fn a_copy_goes_on_alone(rt: HostRuntime) {
-    check_copy::<Plain>(&rt, rt.alloc());
-    check_copy::<Core>(&rt, rt.alloc());
-}
-
 /// Two instructions at a scenario's start, and what a look then shows.
 #[derive(Clone, Copy)]
 struct Looked {
@@ -177,14 +171,6 @@ fn check_looked<M: Machine>(rt: &impl Abort, alloc: Global, row: &Looked) {
     check_look(rt, &machine, row);
 }
 
-#[test]
-fn a_look_shows_the_state(rt: HostRuntime) {
-    for row in LOOKED {
-        check_looked::<Plain>(&rt, rt.alloc(), &row);
-        check_looked::<Core>(&rt, rt.alloc(), &row);
-    }
-}
-
 /// Appends a number between two words.
 fn push_number(
     rt: &impl Abort,
@@ -254,12 +240,6 @@ fn check_largest<M: Machine>(rt: &impl Abort, alloc: Global) {
     same(rt, "the time", machine.now(), 1);
 }
 
-#[test]
-fn the_largest_scenario_runs(rt: HostRuntime) {
-    check_largest::<Plain>(&rt, rt.alloc());
-    check_largest::<Core>(&rt, rt.alloc());
-}
-
 /// A scenario of 17 CPUs is refused.
 fn check_not_loaded<M: Machine>(rt: &impl Abort, alloc: Global) {
     let mut scenario = scenario(rt, alloc, TWO_WORKS);
@@ -268,8 +248,18 @@ fn check_not_loaded<M: Machine>(rt: &impl Abort, alloc: Global) {
     same(rt, "17 CPUs", fault, Some(LoadError::Fault(Fault::Range)));
 }
 
+/// A copy goes on alone, a look shows the state, the largest scenario runs, and one with a fault isn't loaded.
+fn check_machine<M: Machine>(rt: &impl Abort, alloc: Global) {
+    check_copy::<M>(rt, alloc);
+    for row in LOOKED {
+        check_looked::<M>(rt, alloc, &row);
+    }
+    check_largest::<M>(rt, alloc);
+    check_not_loaded::<M>(rt, alloc);
+}
+
 #[test]
-fn a_scenario_with_a_fault_is_not_loaded(rt: HostRuntime) {
-    check_not_loaded::<Plain>(&rt, rt.alloc());
-    check_not_loaded::<Core>(&rt, rt.alloc());
+fn either_body_copies_looks_and_loads(rt: HostRuntime) {
+    check_machine::<Plain>(&rt, rt.alloc());
+    check_machine::<Core>(&rt, rt.alloc());
 }

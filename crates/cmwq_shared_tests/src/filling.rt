@@ -116,11 +116,6 @@ fn check_filling<M: Machine + Send + Sync, R: Threads + Wait + Abort + Sync>(
     }
 }
 
-#[test]
-fn two_threads_fill_a_history(rt: HostRuntime) {
-    check_filling::<Core, HostRuntime>(&rt, rt.alloc());
-}
-
 /// So many passes more.
 fn more_passes<M: Machine>(
     rt: &impl Abort,
@@ -182,7 +177,13 @@ fn check_caller_64<M: Machine, R: Wait + Abort>(rt: &R, alloc: Global) {
     }
 }
 
+/// Two threads fill a history, and a pass after the 64th has a number of its own.
+fn check_long<M: Machine + Send + Sync, R: Threads + Wait + Abort + Sync>(rt: &R, alloc: Global) {
+    check_filling::<M, R>(rt, alloc);
+    check_caller_64::<M, R>(rt, alloc);
+}
+
 #[test]
-fn a_pass_after_the_64th_has_a_number_of_its_own(rt: HostRuntime) {
-    check_caller_64::<Core, HostRuntime>(&rt, rt.alloc());
+fn a_shared_engine_fills_and_numbers_its_passes(rt: HostRuntime) {
+    check_long::<Core, HostRuntime>(&rt, rt.alloc());
 }

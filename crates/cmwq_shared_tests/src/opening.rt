@@ -51,11 +51,6 @@ fn check_engine<M: Machine>(rt: &impl Abort, alloc: Global) {
     same(rt, "an engine", engine.history(), &[want]);
 }
 
-#[test]
-fn an_engine_opens_or_answers_no_memory(rt: HostRuntime) {
-    check_engine::<Core>(&rt, rt.alloc());
-}
-
 /// A shared engine with room for three entries, and its opener.
 fn opened_shared<M: Machine>(
     rt: &impl Abort,
@@ -85,7 +80,13 @@ fn check_shared<M: Machine>(rt: &impl Abort, alloc: Global) {
     }
 }
 
+/// Both kinds of engines open, or answer that memory ran out.
+fn check_opening<M: Machine>(rt: &impl Abort, alloc: Global) {
+    check_engine::<M>(rt, alloc);
+    check_shared::<M>(rt, alloc);
+}
+
 #[test]
-fn a_shared_engine_opens_or_answers_no_memory(rt: HostRuntime) {
-    check_shared::<Core>(&rt, rt.alloc());
+fn engines_open_or_answer_no_memory(rt: HostRuntime) {
+    check_opening::<Core>(&rt, rt.alloc());
 }

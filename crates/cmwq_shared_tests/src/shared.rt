@@ -208,11 +208,6 @@ fn check_order<M: Machine>(rt: &impl Abort, alloc: Global) {
     same(rt, "entries", engine.history().len(), 3);
 }
 
-#[test]
-fn two_callers_issue_in_the_order_of_their_tickets(rt: HostRuntime) {
-    check_order::<Core>(&rt, rt.alloc());
-}
-
 /// Two callers issue and meet, and the first issues on.
 fn check_meeting<M: Machine>(rt: &impl Abort, alloc: Global) {
     let (shared, _opener, p0, p1) = with_two_passes::<M>(rt, alloc, ONE_WORK, 4);
@@ -225,11 +220,6 @@ fn check_meeting<M: Machine>(rt: &impl Abort, alloc: Global) {
     let _p0 = issued(rt, &shared, d0, Instr::State(A), Ok(receipt(2, 2, LISTED)));
 }
 
-#[test]
-fn a_caller_issues_on_after_a_meeting(rt: HostRuntime) {
-    check_meeting::<Core>(&rt, rt.alloc());
-}
-
 /// With 64 callers out, one more is refused.
 fn check_64_out<M: Machine>(rt: &impl Abort, alloc: Global) {
     let (shared, mut opener) = opened::<M>(rt, alloc, ONE_WORK, 3);
@@ -237,11 +227,6 @@ fn check_64_out<M: Machine>(rt: &impl Abort, alloc: Global) {
         let _stays_out = shared.pass(&mut opener).expect(rt, "fewer than 64 are out");
     }
     same(rt, "64 passes out", shared.pass(&mut opener).is_err(), true);
-}
-
-#[test]
-fn refuses_a_pass_while_64_callers_are_out(rt: HostRuntime) {
-    check_64_out::<Core>(&rt, rt.alloc());
 }
 
 /// Whether the work that was asked for is pending.
@@ -341,7 +326,18 @@ fn check_seeing<M: Machine + Send + Sync, R: Threads + Wait + Clock + Abort + Sy
     assert!(rt; last.map(|entry| entry.caller).eq([1, 0].iter().copied()));
 }
 
+/// Two callers issue in the order of their tickets; one issues on after a meeting; a 65th is refused; two threads see each other's work pending, and meet.
+fn check_callers<M: Machine + Send + Sync, R: Threads + Wait + Clock + Abort + Sync>(
+    rt: &R,
+    alloc: Global,
+) {
+    check_order::<M>(rt, alloc);
+    check_meeting::<M>(rt, alloc);
+    check_64_out::<M>(rt, alloc);
+    check_seeing::<M, R>(rt, alloc);
+}
+
 #[test]
-fn two_threads_see_each_others_work_pending_and_meet(rt: HostRuntime) {
-    check_seeing::<Core, HostRuntime>(&rt, rt.alloc());
+fn callers_of_a_shared_engine_get_on(rt: HostRuntime) {
+    check_callers::<Core, HostRuntime>(&rt, rt.alloc());
 }

@@ -30,7 +30,7 @@ returns g c actor runs =
     let remaining = g.R.Read.remaining in
     let contents = g.W.Write.contents in
     let holds = Holds (remaining c.args.commands.now) (remaining c.hold.new.commands) (contents c.args.writer.now) (contents c.hold.new.writer)
-        (g.R.Source.failed c.hold.new.commands) (g.W.Sink.failed c.hold.new.writer) M in
+    (g.R.Source.failed c.hold.new.commands) (g.W.Sink.failed c.hold.new.writer) M in
     let kept : c.in_ok-scenario.scenario.value ≡ S = c.in_ok-scenario.ensures.ok in
     let same : c.deref-2.result.now ≡ S = search rules in
     let first : c.index.result.now ≡ slice_index_or S.actors 0 c.index.result.now = search rules in

@@ -2,7 +2,7 @@ use Rattle.std.proofs.Common.{◌≤◌, length, ◌≡◌, Some}
 use Rattle.std.specs.List.{slice_get}
 use Rattle.cmwq_explore.specs.Searching.{AreClean, Entry, IsClosedTo, IsGrown, IsTop}
 use Rattle.cmwq_explore.specs.Waiting.{AreWaiting}
-use Rattle.cmwq_explore.proofs.exploring.search.Given as goal
+use Rattle.cmwq_explore.proofs.exploring.handle_all.Given as goal
 
 -- what the choices of the states so far lead to was seen
 abbrev pub invariant-loop-place : goal.invariant-loop-place
