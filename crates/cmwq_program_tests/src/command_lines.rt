@@ -397,15 +397,8 @@ fn a_check_asks_for_each_of_its_files(rt: HostRuntime) {
     same(&rt, line, files.as_slice(), want.as_slice());
 }
 
-/// An exploration of `a`: its line, what no order may come to, who begins when whom has ended, and how many states are looked at.
-type Explored = (
-    &'static str,
-    Never<'static>,
-    &'static [Precedence<'static>],
-    u32,
-);
-
-const EXPLORATIONS: [Explored; 10] = [
+/// Explorations of `a`: what no order may come to, who begins when whom has ended, and how many states are looked at.
+const EXPLORATIONS: [(&str, Never<'_>, &[Precedence<'_>], u32); 10] = [
     ("cmwq explore a --stuck", Never::Stuck, &[], 100_000),
     ("cmwq explore --stuck a --limit 1", Never::Stuck, &[], 1),
     (
@@ -496,29 +489,18 @@ const EXPLORATIONS: [Explored; 10] = [
     ),
 ];
 
-/// The words of the line are the exploration.
-fn check_exploration(rt: &impl Abort, alloc: Global, explored: &Explored) {
-    let (line, never, before, limit) = *explored;
-    let given = words(rt, alloc, line);
-    match parse(alloc, given.as_slice()).expect(rt, line) {
-        Request::Explore { file, exploration } => {
-            same(rt, line, file, "a");
-            same(rt, line, exploration.never, never);
-            same(rt, line, exploration.before.as_slice(), before);
-            same(rt, line, exploration.limit, limit);
-        }
-        _ => same(rt, line, "another request", "an exploration"),
-    }
-}
-
-/// The words of each line are its exploration.
-fn check_explorations(rt: &impl Abort, alloc: Global, rows: &[Explored]) {
-    for explored in rows {
-        check_exploration(rt, alloc, explored);
-    }
-}
-
 #[test]
 fn an_exploration_has_its_options(rt: HostRuntime) {
-    check_explorations(&rt, rt.alloc(), &EXPLORATIONS);
+    for (line, never, before, limit) in EXPLORATIONS {
+        let given = words(&rt, rt.alloc(), line);
+        match parse(rt.alloc(), given.as_slice()).expect(&rt, line) {
+            Request::Explore { file, exploration } => {
+                same(&rt, line, file, "a");
+                same(&rt, line, exploration.never, never);
+                same(&rt, line, exploration.before.as_slice(), before);
+                same(&rt, line, exploration.limit, limit);
+            }
+            _ => same(&rt, line, "another request", "an exploration"),
+        }
+    }
 }
