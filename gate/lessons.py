@@ -7,10 +7,10 @@ scenarios/README.md asks of each lesson why something waits: a line **QUESTION?*
 prints. What is asked of all orders of several actors, `./cmwq explore ..`, has its answer in NAME.explore_.., and folded away that name, the status and the
 answer from its first comment on; an order that was found has the steps and the lines of its run in its comments. The
 commands of both pages stand behind `$`, each with what it prints, and README.md's picture is docs/max_active_3.svg. The program's
-own stored run is one of these. Then faulty input: the status, and what each stream is given. And each scenario of one actor through an engine, by the program HISTORIES, where it is named: it
+own stored run is one of these. Then faulty input: the status, and what each stream is given. And each scenario of one actor through an engine, by the program CALLS, where it is named: it
 prints the history, of which each entry is compared.
 
-    python3 gate/lessons.py PROGRAM [HISTORIES]"""
+    python3 gate/lessons.py PROGRAM [CALLS]"""
 import glob
 import itertools
 import os
@@ -210,16 +210,13 @@ def entry_faults(listing, printed, told, history):
     return faults + ([] if "".join(lines) == printed else ["the replies of its history"])
 
 
-def history_faults(histories, program, text):
-    """What is wrong with a scenario's history on an engine, and with the stored one where the scenario is its own."""
+def history_faults(calls, program, text):
+    """What is wrong with a scenario's history on an engine."""
     listing, printed = said(program, "list", text).decode(), bytes_of(f"{text.removesuffix('.cmwq')}.out").decode()
     told = (said(program, "run", "--tell", text) or b"").decode()
     with open(text, "rb") as it:
-        ran = subprocess.run([histories], stdin=it, stdout=subprocess.PIPE, stderr=subprocess.STDOUT, timeout=120)
-    stored = f"{TOP}/crates/cmwq_histories"
-    found = [ran.stdout] + ([bytes_of(f"{stored}/stdout")] if bytes_of(f"{stored}/stdin") == bytes_of(text) else [])
-    faults = [fault for history in found for fault in entry_faults(listing, printed, told, history.decode())]
-    return [f"{os.path.relpath(text, TOP)}: {fault} isn't as it should be" for fault in faults]
+        ran = subprocess.run([calls, "history"], stdin=it, stdout=subprocess.PIPE, stderr=subprocess.STDOUT, timeout=120)
+    return [f"{os.path.relpath(text, TOP)}: {fault} isn't as it should be" for fault in entry_faults(listing, printed, told, ran.stdout.decode())]
 
 
 def play_faults(program, text, room):
@@ -259,7 +256,7 @@ def quiet_faults(program, room):
     return faults + ([] if failed(program, "run", "--settle", text) == spent else ["run --settle: not the lines up to the steps' end"])
 
 
-def main(program, histories=None):
+def main(program, calls=None):
     plays = sorted({re.sub(r"\.play\d+$", ".cmwq", it) for it in glob.glob(f"{TOP}/scenarios/*.play*")})
     orders = sorted(glob.glob(f"{TOP}/scenarios/*.explore_*"))
     explored = sorted({re.sub(r"\.explore_\w+$", ".cmwq", it) for it in orders})
@@ -269,7 +266,7 @@ def main(program, histories=None):
     with tempfile.TemporaryDirectory(prefix="lessons-") as room:
         faults = [fault for text in texts + plays + explored for fault in form_faults(program, text, room)]
         faults += [fault for text in texts for fault in run_faults(program, text, room)]
-        faults += [fault for text in texts if histories for fault in history_faults(histories, program, text)]
+        faults += [fault for text in texts if calls for fault in history_faults(calls, program, text)]
         faults += [fault for commands in sorted(glob.glob(f"{TOP}/scenarios/*.debug")) for fault in session_faults(program, commands)]
         faults += [fault for text in plays for fault in play_faults(program, text, room)]
         faults += shown_faults(program, texts) + quiet_faults(program, room) + question_faults(program, texts + plays)
@@ -290,8 +287,6 @@ def main(program, histories=None):
         lesson = f"{TOP}/scenarios/{os.path.basename(stored)}"
         if bytes_of(stored) != bytes_of(lesson) or bytes_of(f"{TOP}/crates/cmwq/stdout") != bytes_of(f"{lesson.removesuffix('.cmwq')}.out"):
             faults.append(f"{os.path.relpath(stored, TOP)}: it isn't the lesson of this name")
-    if bytes_of(f"{TOP}/crates/cmwq_histories/stdin") not in map(bytes_of, texts):
-        faults.append("crates/cmwq_histories/stdin: it is no lesson")
     faults += [] if texts else ["scenarios/: there is nothing to compare"]
     faults += [] if drawings else ["scenarios/: there is no picture to compare"]
     faults += [] if answers and orders else ["scenarios/: there is no answer to compare"]

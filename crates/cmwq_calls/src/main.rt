@@ -4,13 +4,21 @@
 //!
 //! `gate/refused_calls.py` has each call's 1st, 2nd, .. allocation refused in turn, and compares what is printed with what is printed
 //! where memory is ample. Memory that is refused outside of the call ends the program with `no memory` and the status of that fault.
+//!
+//! The word `history` names no call: the scenario's instructions are issued on an engine, and the history is printed, a line an entry,
+//! `TICKET CALLER INSTRUCTION: REPLY`, with the instruction as a listing spells it, and the line of the reply, or `Queued` or `Done`
+//! where it has none. Where the machine's other body replies or shows anything else after an instruction, a line says so.
+//! `gate/lessons.py` compares all that with what each lesson says.
 #![tactic(auto)]
 
 mod acting;
 mod bodies;
 mod call_name;
+mod comparing;
 mod debugging;
 mod engines;
+mod entries;
+mod history;
 mod instructions;
 mod machines;
 mod session;
@@ -18,6 +26,7 @@ mod showing;
 mod stores;
 mod streams;
 mod texts;
+mod timing;
 mod trying;
 
 use bodies::{Body, BodyCall, try_body};
@@ -26,6 +35,7 @@ use cmwq_core::Core;
 use cmwq_outcome::fault;
 use cmwq_plain::Plain;
 use cmwq_play::{Marked, PlayError, read_whole};
+use history::show_history;
 use std::alloc::Global;
 use std::io::Read;
 use std::process::ExitCode;
@@ -36,6 +46,9 @@ use std::{env, io};
 
 /// The status where the word names no call.
 const USAGE: u8 = 2;
+
+/// The word for a history.
+const HISTORY: &str = "history";
 
 /// Makes a call of the machine of vectors.
 fn try_plain<R: Print>(
@@ -71,7 +84,25 @@ fn try_named<R: Print + Threads + Wait + Clock + Sync>(
     }
 }
 
-/// Makes the call that the one word names, of the scenario whose text the reader has, and gives the exit status.
+/// Makes the call that the word names, of the scenario of this text where it takes one, or prints its history, and gives the exit status.
+fn try_word<R: Print + Threads + Wait + Clock + Sync>(
+    rt: &R,
+    alloc: Global,
+    word: &str,
+    text: &[u8],
+) -> Result<u8, PlayError> {
+    if word == HISTORY {
+        show_history::<Core, Plain, R>(rt, alloc, text)?;
+        return Ok(0);
+    }
+    let Some(name) = call_of(word) else {
+        return Ok(USAGE);
+    };
+    try_named(rt, alloc, &name, text)?;
+    Ok(0)
+}
+
+/// Does what the one word says with the text that the reader has, and gives the exit status.
 fn try_words<R: Print + Threads + Wait + Clock + Sync, I: Read + Drop>(
     rt: &R,
     alloc: Global,
@@ -81,12 +112,8 @@ fn try_words<R: Print + Threads + Wait + Clock + Sync, I: Read + Drop>(
     let Some(word) = words.get(1) else {
         return Ok(USAGE);
     };
-    let Some(name) = call_of(word.as_str()) else {
-        return Ok(USAGE);
-    };
     let text = read_whole(alloc, &mut Marked::new(input))?;
-    try_named(rt, alloc, &name, &text)?;
-    Ok(0)
+    try_word(rt, alloc, word.as_str(), &text)
 }
 
 /// The words of the command line, or none where they aren't all text.

@@ -2,18 +2,12 @@
 ghost use Rattle.cmwq_types.specs.declared.limits.TheConstants.{MAX_HISTORY};
 ghost use Rattle.std.specs.Prelude.{◌≡◌, ◌≤◌, [], IfOk};
 
+use crate::instructions::count_of;
 use cmwq_engine::Engine;
 use cmwq_play::PlayError;
-use cmwq_runs::expanded;
 use cmwq_table::{LoadError, Machine};
-use cmwq_types::{Instr, MAX_HISTORY, Scenario};
+use cmwq_types::{Instr, Scenario};
 use std::alloc::Global;
-
-/// The instructions of the scenario's first actor, in order. `Actors` where it has none.
-pub(crate) fn actor_instrs(alloc: Global, scenario: &Scenario) -> Result<Vec<Instr>, PlayError> {
-    let actor = scenario.actors.first().ok_or(PlayError::Actors)?;
-    Ok(expanded(alloc, &actor.lines)?)
-}
 
 /// An engine of the scenario, whose history has room for so many entries.
 fn open_engine<M: Machine>(
@@ -37,10 +31,8 @@ pub(crate) fn issued<M: Machine>(
     scenario: &Scenario,
     instrs: &[Instr],
 ) -> Result<(Engine<M>, Vec<u64>), PlayError> {
-    if instrs.len() > MAX_HISTORY as usize {
-        return Err(PlayError::Full);
-    }
-    let mut engine = open_engine(alloc, scenario, instrs.len() as u32)?;
+    let room = count_of(instrs)?;
+    let mut engine = open_engine(alloc, scenario, room)?;
     let times = issue_timed(alloc, &mut engine, instrs)?;
     Ok((engine, times))
 }
