@@ -6,10 +6,10 @@ use crate::settling::UNSETTLED;
 use cmwq_asm::AsmError;
 use cmwq_grammar::Why;
 use cmwq_image::ImageError;
-use cmwq_machine_tests::examples::{
+use crate::examples::{
     EXAMPLES, Example, IMAGE_OF_STEPS_RUN_OUT, MAX_ACTIVE_3, STEPS_RUN_OUT, TIMERS_OF_BODIES,
 };
-use cmwq_machine_tests::streams::{Failure, Input, Output, reading_of, writing_to};
+use crate::streams::{Failure, Input, Output, reading_of, writing_to};
 use cmwq_play::{Marked, PlayError, read_text};
 use cmwq_question::{Inquiry, Looks, Question};
 use cmwq_types::Fault;

@@ -1,7 +1,7 @@
 //! The command `debug`, over memory: what it writes, however its commands come, and reads and writes that fail.
 use crate::carried::{Command, Outcome, carried_out};
 use crate::checking::same;
-use cmwq_machine_tests::streams::{Failure, Input, Output, reading_of, writing_to};
+use crate::streams::{Failure, Input, Output, reading_of, writing_to};
 use cmwq_play::PlayError;
 use std::alloc::Global;
 use std::process::Abort;

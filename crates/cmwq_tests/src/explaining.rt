@@ -6,7 +6,7 @@ use crate::commands::{DEEPEST, check_refused, check_written};
 use crate::settling::UNSETTLED;
 use cmwq_asm::AsmError;
 use cmwq_grammar::Why;
-use cmwq_machine_tests::streams::{reading_of, writing_to};
+use crate::streams::{reading_of, writing_to};
 use cmwq_play::PlayError;
 use cmwq_question::{Looks, Question};
 use cmwq_types::Fault;

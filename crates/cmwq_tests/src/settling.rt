@@ -2,8 +2,8 @@
 use crate::carried::{Command, asked_settled, carried_out};
 use crate::checking::same;
 use crate::commands::{check_refused, check_written};
-use cmwq_machine_tests::examples::MAX_ACTIVE_3;
-use cmwq_machine_tests::streams::{reading_of, writing_to};
+use crate::examples::MAX_ACTIVE_3;
+use crate::streams::{reading_of, writing_to};
 use cmwq_play::PlayError;
 use cmwq_question::{Looks, Question};
 use std::alloc::Global;

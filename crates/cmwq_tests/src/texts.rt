@@ -3,7 +3,7 @@ use crate::checking::same;
 use cmwq_asm::{AsmError, assemble};
 use cmwq_grammar::Why;
 use cmwq_list::list;
-use cmwq_machine_tests::examples::STEPS_RUN_OUT;
+use crate::examples::STEPS_RUN_OUT;
 use cmwq_types::Fault;
 use std::alloc::Global;
 use std::process::Abort;

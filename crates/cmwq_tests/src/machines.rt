@@ -5,7 +5,7 @@ use cmwq_asm::assemble;
 use cmwq_core::Core;
 use cmwq_plain::Plain;
 use cmwq_table::{LoadError, Machine, View};
-use cmwq_types::{Event, Fault, Instr, QueueId, Reply, Scenario, WorkId};
+use cmwq_types::{Fault, Instr, QueueId, Reply, Scenario, WorkId};
 use std::alloc::Global;
 use std::process::Abort;
 
@@ -22,7 +22,7 @@ pub(crate) fn scenario(rt: &impl Abort, alloc: Global, text: &[u8]) -> Scenario 
 }
 
 /// A machine at the start of the scenario that the text spells.
-pub(crate) fn loaded<M: Machine>(rt: &impl Abort, alloc: Global, text: &[u8]) -> M {
+fn loaded<M: Machine>(rt: &impl Abort, alloc: Global, text: &[u8]) -> M {
     M::load(alloc, &scenario(rt, alloc, text)).expect(rt, "a valid scenario")
 }
 
@@ -35,7 +35,7 @@ fn exec_all<M: Machine>(rt: &impl Abort, machine: &mut M, rows: &[(Instr, Reply)
 }
 
 /// The whole state of the machine.
-pub(crate) fn whole_view<M: Machine>(rt: &impl Abort, machine: &M) -> View {
+fn whole_view<M: Machine>(rt: &impl Abort, machine: &M) -> View {
     machine.look().expect(rt, "memory is left")
 }
 
@@ -171,75 +171,6 @@ fn check_looked<M: Machine>(rt: &impl Abort, alloc: Global, row: &Looked) {
     check_look(rt, &machine, row);
 }
 
-/// Appends a number between two words.
-fn push_number(
-    rt: &impl Abort,
-    alloc: Global,
-    text: &mut String,
-    before: &str,
-    number: u16,
-    behind: &str,
-) {
-    let words = format!(in alloc; "{before}{number}{behind}").expect(rt, "memory is left");
-    text.push_str(words.as_str()).expect(rt, "memory is left");
-}
-
-/// Appends a body of 64 operations.
-fn push_body(rt: &impl Abort, alloc: Global, text: &mut String, w: u16) {
-    push_number(rt, alloc, text, "body w", w, "\n");
-    for _ in 0..63 {
-        push_number(rt, alloc, text, "burn ", 1, "\n");
-    }
-    text.push_str("finish\n").expect(rt, "memory is left");
-}
-
-/// A text with 16 CPUs, 64 workers a pool, 32 queues, and 256 works of 64 operations.
-fn largest(rt: &impl Abort, alloc: Global) -> String {
-    let head = "cpus 16\nworkers 64\nsteps 1000\nflushes 2\n";
-    let mut text = String::from_str(alloc, head).expect(rt, "memory is left");
-    for q in 0..32u16 {
-        push_number(rt, alloc, &mut text, "queue q", q, " max 512\n");
-    }
-    for w in 0..256u16 {
-        push_number(rt, alloc, &mut text, "work w", w, " q");
-        push_number(rt, alloc, &mut text, "", w % 32, "\n");
-    }
-    for w in 0..256u16 {
-        push_body(rt, alloc, &mut text, w);
-    }
-    text.push_str("actor t\n").expect(rt, "memory is left");
-    text
-}
-
-/// Queues each work, on the CPUs in turn.
-fn queue_all<M: Machine>(rt: &impl Abort, machine: &mut M) {
-    for w in 0..256u16 {
-        let reply = machine.exec(Instr::Queue(WorkId(w), (w % 16) as u8));
-        same(rt, w, reply, Reply::Queued);
-    }
-}
-
-/// Each CPU starts the first of its sixteen works, and the others wait for it.
-fn start_first<M: Machine>(rt: &impl Abort, machine: &mut M) {
-    for w in 0..16u16 {
-        let work = WorkId(w);
-        for event in [Event::Starts, Event::Burns(1)] {
-            let reply = machine.exec(Instr::Next);
-            same(rt, w, reply, Reply::Event { work, event });
-        }
-    }
-}
-
-/// The largest scenario's works are queued, the first of each CPU start, and a tick passes.
-fn check_largest<M: Machine>(rt: &impl Abort, alloc: Global) {
-    let text = largest(rt, alloc);
-    let mut machine: M = loaded(rt, alloc, text.as_bytes());
-    queue_all(rt, &mut machine);
-    start_first(rt, &mut machine);
-    exec_all(rt, &mut machine, &[(Instr::Next, Reply::Done)]);
-    same(rt, "the time", machine.now(), 1);
-}
-
 /// A scenario of 17 CPUs is refused.
 fn check_not_loaded<M: Machine>(rt: &impl Abort, alloc: Global) {
     let mut scenario = scenario(rt, alloc, TWO_WORKS);
@@ -248,13 +179,12 @@ fn check_not_loaded<M: Machine>(rt: &impl Abort, alloc: Global) {
     same(rt, "17 CPUs", fault, Some(LoadError::Fault(Fault::Range)));
 }
 
-/// A copy goes on alone, a look shows the state, the largest scenario runs, and one with a fault isn't loaded.
+/// A copy goes on alone, a look shows the state, and a scenario with a fault isn't loaded.
 fn check_machine<M: Machine>(rt: &impl Abort, alloc: Global) {
     check_copy::<M>(rt, alloc);
     for row in LOOKED {
         check_looked::<M>(rt, alloc, &row);
     }
-    check_largest::<M>(rt, alloc);
     check_not_loaded::<M>(rt, alloc);
 }
 

@@ -10,7 +10,7 @@ use cmwq_asm::assemble;
 use cmwq_core::Core;
 use cmwq_engine::{Engine, Full, IssueError, Receipt, Shared, StillOut};
 use cmwq_lock::{Drawn, NotYet, Opener, Pass};
-use cmwq_machine_tests::examples::TWO_WORKS;
+use crate::examples::TWO_WORKS;
 use cmwq_table::Machine;
 use cmwq_types::{Instr, Place, Reply, WorkId, WorkState};
 use std::alloc::Global;

@@ -3,7 +3,7 @@ use Rattle.std.specs.List.{All}
 use Rattle.cmwq_lock.specs.Tokens.{opener_view}
 use Rattle.cmwq_lock.specs.Views.{next_of}
 use Rattle.cmwq_engine.specs.Shared.{IsOpenerOf, IsPassOf}
-use Rattle.cmwq_shared_tests.proofs.filling.more_passes.Given as goal
+use Rattle.cmwq_tests.proofs.filling.more_passes.Given as goal
 
 abbrev pub invariant-loop : goal.invariant-loop
 invariant-loop g l = record {

@@ -1,5 +1,5 @@
 use Rattle.cmwq_engine.specs.Shared.{IsOpenerOf}
-use Rattle.cmwq_shared_tests.proofs.filling.retire_all.Given as goal
+use Rattle.cmwq_tests.proofs.filling.retire_all.Given as goal
 
 abbrev pub invariant-loop-pass : goal.invariant-loop-pass
 invariant-loop-pass g l =

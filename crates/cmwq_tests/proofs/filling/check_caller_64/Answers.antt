@@ -1,6 +1,6 @@
 use Rattle.std.proofs.lemmas.List.Elements.{All-pop}
 use Rattle.cmwq_engine.specs.Shared.{IsPassOf}
-use Rattle.cmwq_shared_tests.proofs.filling.check_caller_64.Goals as goal
+use Rattle.cmwq_tests.proofs.filling.check_caller_64.Goals as goal
 
 pub retire_all-requires-clause-passes : goal.retire_all-requires-clause-passes
 retire_all-requires-clause-passes g c =
