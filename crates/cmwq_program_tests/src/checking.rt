@@ -1,6 +1,4 @@
-//! What the rows share: the one assertion, since a row of a table costs less to prove where it only calls this, and the setting of commands.
-use cmwq_command::{Manner, ProgramSetting};
-use cmwq_outcome::Look;
+//! The one assertion that rows share, since a row of a table costs less to prove where it only calls this.
 use std::fmt::Debug;
 use std::process::Abort;
 
@@ -12,13 +10,4 @@ pub(crate) fn same<C: Debug + Drop, T: Debug + PartialEq + Drop>(
     want: T,
 ) {
     assert_eq!(rt; got, want, "{case:?}");
-}
-
-/// The setting in which commands are carried out here.
-pub(crate) fn setting_with(look: Look) -> ProgramSetting<'static> {
-    ProgramSetting {
-        logic: "5eed5eed5eed5eed",
-        look,
-        manner: Manner::Plain,
-    }
 }

@@ -1,4 +1,4 @@
-//! Tests of the program: its command lines, commands on files, plays, and how it ends.
+//! Tests of the program that no transcript shows: which request each command line is, plays, and faults that no run comes to.
 #![tactic(auto)]
 
 #[cfg(test)]
@@ -7,9 +7,5 @@ mod checking;
 mod command_lines;
 #[cfg(test)]
 mod faults;
-#[cfg(test)]
-mod files;
-#[cfg(test)]
-mod misuse;
 #[cfg(test)]
 mod playing;
