@@ -15,7 +15,7 @@ import tempfile
 sys.dont_write_bytecode = True
 TOP = os.path.dirname(os.path.dirname(os.path.realpath(__file__)))
 # What a shell prints behind a command's output: the number of the command, and its status.
-MARK = "end of command"
+MARK = "the transcript has run command"
 
 
 def commands_of(lines):

@@ -1,4 +1,4 @@
-//! The command `debug`, over memory: what it writes, however its commands come, and reads and writes that fail.
+//! The command `debug`, over memory: when it reads and writes, reads and writes that fail, and commands without end.
 use crate::carried::{Command, Outcome, carried_out};
 use crate::checking::same;
 use crate::streams::{Failure, Input, Output, reading_of, writing_to};
@@ -6,44 +6,27 @@ use cmwq_play::PlayError;
 use std::alloc::Global;
 use std::process::Abort;
 
-/// Commands, the last of which no line feed ends.
-const COMMANDS: &[u8] =
-    b"goto 12\n\nbreak work w0 event wakes\nrun\nback 28\nback 1 # before the start\nstep 45\nclear 1\nhello";
+/// Four commands.
+const STEPS: &[u8] = b"step 1\nstep 1\nstep 1\nstep 1\n";
 
-/// What is said to them.
-const SAID: &[u8] =
-    b"at 12 now 5\nbreak 0\nat 28 now 15 break 0\nat 0 now 0\nrefused PastStart\nrefused PastEnd\n\
-    refused NoSuchBreak\nbad command\n";
+/// What is said to none of them, to the first, to the first two, and to three.
+const SAID: [&[u8]; 4] = [
+    b"",
+    b"at 1 now 0\n",
+    b"at 1 now 0\nat 2 now 0\n",
+    b"at 1 now 0\nat 2 now 0\nat 3 now 0\n",
+];
 
 /// Carries the commands out, read and written so many bytes a call.
 fn debugged(alloc: Global, input: Input<'_>, output: Output) -> Outcome {
     carried_out(alloc, Command::Debug, input, output)
 }
 
-#[test]
-fn commands_are_answered_however_they_come(rt: HostRuntime) {
-    for (read, write) in [(4096, 4096), (1, 4096), (7, 5), (4096, 1)] {
-        let outcome = debugged(
-            rt.alloc(),
-            reading_of(COMMANDS, read),
-            writing_to(rt.alloc(), write),
-        );
-        same(&rt, (read, write), outcome.result, Ok(()));
-        same(&rt, (read, write), outcome.written.as_slice(), SAID);
-    }
-}
-
 /// Each read gives one command: where the next one fails, all before it have been answered.
 #[test]
 fn a_command_is_answered_before_the_next_one_is_read(rt: HostRuntime) {
-    let answers: [&[u8]; 4] = [
-        b"",
-        b"at 1 now 0\n",
-        b"at 1 now 0\nat 2 now 0\n",
-        b"at 1 now 0\nat 2 now 0\nat 3 now 0\n",
-    ];
-    for (before, want) in answers.iter().enumerate() {
-        let mut input = reading_of(b"step 1\nstep 1\nstep 1\n", 7);
+    for (before, want) in SAID.iter().enumerate() {
+        let mut input = reading_of(STEPS, 7);
         input.fails = before.saturating_add(1);
         let outcome = debugged(rt.alloc(), input, writing_to(rt.alloc(), 4096));
         same(&rt, before, outcome.result, Err(PlayError::Read));
@@ -67,24 +50,20 @@ fn nothing_is_read_behind_quit(rt: HostRuntime) {
     }
 }
 
-/// How many bytes are said to each of the commands and to those before it.
-const SAID_UP_TO: [usize; 8] = [0, 12, 20, 41, 52, 70, 86, 106];
-
 /// A writer that fails at one of its calls takes what was said before.
 fn check_failed_write(rt: &impl Abort, alloc: Global, call: usize, failure: Failure, want: &[u8]) {
     let mut output = writing_to(alloc, 4096);
     output.fails = call;
     output.failure = failure;
-    let outcome = debugged(alloc, reading_of(COMMANDS, 4096), output);
+    let outcome = debugged(alloc, reading_of(STEPS, 4096), output);
     same(rt, (call, failure), outcome.result, Err(PlayError::Write));
     same(rt, (call, failure), outcome.written.as_slice(), want);
 }
 
 #[test]
 fn a_failed_write_ends_the_session(rt: HostRuntime) {
-    for (before, said) in SAID_UP_TO.iter().enumerate() {
+    for (before, want) in SAID.iter().enumerate() {
         for failure in [Failure::Error, Failure::TakesNone] {
-            let want = SAID.get(..*said).expect(&rt, "so much is said");
             check_failed_write(&rt, rt.alloc(), before.saturating_add(1), failure, want);
         }
     }

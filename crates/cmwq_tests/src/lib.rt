@@ -1,4 +1,4 @@
-//! Tests of texts, images and commands over memory, over tables of rows.
+//! Tests of commands over memory: reads and writes that fail, and input without end.
 #![tactic(auto)]
 
 #[cfg(test)]
@@ -9,11 +9,3 @@ mod checking;
 mod commands;
 #[cfg(test)]
 mod debugging;
-#[cfg(test)]
-mod explaining;
-#[cfg(test)]
-mod images;
-#[cfg(test)]
-mod settling;
-#[cfg(test)]
-mod texts;
