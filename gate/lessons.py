@@ -1,5 +1,5 @@
-"""Runs each scenario of scenarios/ through a built program: what it prints is NAME.out; its listing prints the same; its image is
-shown as the listing. What is told of its run is NAME.tell, where there is one, and without the marked lines what it prints. Its picture, if
+"""Runs each scenario of scenarios/, and each worked example of gate/examples/, which stands there as it is listed, through a built program:
+what it prints is NAME.out; its listing prints the same; its image is shown as the listing. What is told of its run is NAME.tell, where there is one, and without the marked lines what it prints. Its picture, if
 a tick passes, stands in scenarios/README.md below its name, and is NAME.draw, where there is one. What a debugger says to NAME.debug is NAME.said. What a play of a
 scenario with several actors leaves is one of NAME.play1, NAME.play2 .., and run again it prints the lines that stand in it. Why work W
 waits is NAME.why_W, and what flush F waits for NAME.flush_F, where there are such; with _every behind it, the same at every position.
@@ -261,12 +261,14 @@ def main(program, calls=None):
     orders = sorted(glob.glob(f"{TOP}/scenarios/*.explore_*"))
     explored = sorted({re.sub(r"\.explore_\w+$", ".cmwq", it) for it in orders})
     texts = sorted(set(glob.glob(f"{TOP}/scenarios/*.cmwq")).difference(plays, explored))
+    examples = sorted(glob.glob(f"{TOP}/gate/examples/*.cmwq"))
     drawings = sorted(glob.glob(f"{TOP}/scenarios/*.draw"))
     answers = sorted(glob.glob(f"{TOP}/scenarios/*.why_*") + glob.glob(f"{TOP}/scenarios/*.flush_*"))
     with tempfile.TemporaryDirectory(prefix="lessons-") as room:
-        faults = [fault for text in texts + plays + explored for fault in form_faults(program, text, room)]
-        faults += [fault for text in texts for fault in run_faults(program, text, room)]
-        faults += [fault for text in texts if calls for fault in history_faults(calls, program, text)]
+        faults = [fault for text in texts + examples + plays + explored for fault in form_faults(program, text, room)]
+        faults += [f"{os.path.relpath(text, TOP)}: it isn't as it is listed" for text in examples if said(program, "list", text) != bytes_of(text)]
+        faults += [fault for text in texts + examples for fault in run_faults(program, text, room)]
+        faults += [fault for text in texts + examples if calls for fault in history_faults(calls, program, text)]
         faults += [fault for commands in sorted(glob.glob(f"{TOP}/scenarios/*.debug")) for fault in session_faults(program, commands)]
         faults += [fault for text in plays for fault in play_faults(program, text, room)]
         faults += shown_faults(program, texts) + quiet_faults(program, room) + question_faults(program, texts + plays)
@@ -287,11 +289,11 @@ def main(program, calls=None):
         lesson = f"{TOP}/scenarios/{os.path.basename(stored)}"
         if bytes_of(stored) != bytes_of(lesson) or bytes_of(f"{TOP}/crates/cmwq/stdout") != bytes_of(f"{lesson.removesuffix('.cmwq')}.out"):
             faults.append(f"{os.path.relpath(stored, TOP)}: it isn't the lesson of this name")
-    faults += [] if texts else ["scenarios/: there is nothing to compare"]
+    faults += [] if texts and examples else ["scenarios/ or gate/examples/: there is nothing to compare"]
     faults += [] if drawings else ["scenarios/: there is no picture to compare"]
     faults += [] if answers and orders else ["scenarios/: there is no answer to compare"]
     print("".join(f"lessons: {fault}\n" for fault in faults), end="")
-    print(f"lessons: {len(texts + plays + explored)} scenarios, {len(drawings)} pictures and {len(answers + orders)} answers compared, {len(faults)} faults")
+    print(f"lessons: {len(texts + examples + plays + explored)} scenarios, {len(drawings)} pictures and {len(answers + orders)} answers compared, {len(faults)} faults")
     return 1 if faults else 0
 
 

@@ -1,12 +1,12 @@
 //! A command carried out over a reader and a writer.
 ghost use Rattle.std.specs.Prelude.{◌≡◌, false};
 
+use crate::examples::MAX_ACTIVE_3;
+use crate::streams::{Input, Output, reading_of};
 use cmwq_debug_session::{Manner, debug};
 use cmwq_draw::draw;
 use cmwq_drawing::{Drawing, Form, Span, Style};
 use cmwq_explain::why;
-use crate::examples::MAX_ACTIVE_3;
-use crate::streams::{Input, Output, reading_of};
 use cmwq_play::{Marked, PlayError, from_image, list_text, read_text, run, to_image};
 use cmwq_question::{Inquiry, Looks, Question};
 use cmwq_settle::{run_settled, settle_text};
@@ -132,7 +132,7 @@ fn debugged(
     requires commands { commands.old.failed ≡ false }
     requires writer { writer.old.failed ≡ false }
 {
-    let mut text = Marked::new(reading_of(MAX_ACTIVE_3.text, 4096));
+    let mut text = Marked::new(reading_of(MAX_ACTIVE_3, 4096));
     let scenario = read_text(alloc, &mut text)?;
     debug(alloc, Manner::Plain, scenario, commands, writer)
 }

@@ -1,11 +1,11 @@
 //! The commands over memory: reads and writes that fail, lines that go out before all are made, and input without end.
 use crate::carried::{Command, Outcome, asked, asked_settled, carried_out};
 use crate::checking::same;
+use crate::examples::IMAGE_OF_STEPS_RUN_OUT;
+use crate::streams::{Failure, Input, reading_of, writing_to};
 use cmwq_asm::AsmError;
 use cmwq_grammar::Why;
 use cmwq_image::ImageError;
-use cmwq_machine_tests::examples::IMAGE_OF_STEPS_RUN_OUT;
-use cmwq_machine_tests::streams::{Failure, Input, reading_of, writing_to};
 use cmwq_play::PlayError;
 use cmwq_question::{Looks, Question};
 use std::alloc::Global;

@@ -6,11 +6,11 @@ ghost use Rattle.cmwq_lock.specs.Views.{next_of};
 ghost use Rattle.cmwq_engine.specs.Shared.{IsDrawnOf, IsOpenerOf, IsPassOf};
 
 use crate::checking::same;
+use crate::examples::TWO_WORKS;
 use cmwq_asm::assemble;
 use cmwq_core::Core;
 use cmwq_engine::{Engine, Full, IssueError, Receipt, Shared, StillOut};
 use cmwq_lock::{Drawn, NotYet, Opener, Pass};
-use crate::examples::TWO_WORKS;
 use cmwq_table::Machine;
 use cmwq_types::{Instr, Place, Reply, WorkId, WorkState};
 use std::alloc::Global;

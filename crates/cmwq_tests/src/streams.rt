@@ -6,17 +6,17 @@ use std::io::{Read, Write};
 
 /// A reader that gives at most some bytes a call, and may fail at one of its calls.
 #[derive(Drop)]
-pub struct Input<'a> {
+pub(crate) struct Input<'a> {
     /// What is left to read.
-    pub rest: &'a [u8],
+    pub(crate) rest: &'a [u8],
     /// How many bytes a call gives at most.
-    pub step: usize,
+    pub(crate) step: usize,
     /// The number of the call that fails, from 1 on; 0 for none.
-    pub fails: usize,
+    pub(crate) fails: usize,
     /// Whether hashes follow without end.
-    pub endless: bool,
+    pub(crate) endless: bool,
     /// How many calls there were.
-    pub calls: usize,
+    pub(crate) calls: usize,
 }
 
 impl Read for Input<'_> {
@@ -39,7 +39,7 @@ impl Read for Input<'_> {
 
 /// How a writer fails at one of its calls.
 #[derive(Clone, Copy, Debug, PartialEq, Eq)]
-pub enum Failure {
+pub(crate) enum Failure {
     /// It answers an error.
     Error,
     /// It takes none of the bytes.
@@ -48,17 +48,17 @@ pub enum Failure {
 
 /// A writer that takes at most some bytes a call, and may fail at one of its calls.
 #[derive(Drop)]
-pub struct Output {
+pub(crate) struct Output {
     /// What was taken.
-    pub taken: Vec<u8>,
+    pub(crate) taken: Vec<u8>,
     /// How many bytes a call takes at most.
-    pub step: usize,
+    pub(crate) step: usize,
     /// The number of the call that fails, from 1 on; 0 for none.
-    pub fails: usize,
+    pub(crate) fails: usize,
     /// How it fails then.
-    pub failure: Failure,
+    pub(crate) failure: Failure,
     /// How many calls there were.
-    pub calls: usize,
+    pub(crate) calls: usize,
 }
 
 impl Write for Output {
@@ -81,7 +81,7 @@ impl Write for Output {
 }
 
 /// A reader of the bytes that doesn't fail.
-pub fn reading_of(bytes: &[u8], step: usize) -> Input<'_> {
+pub(crate) fn reading_of(bytes: &[u8], step: usize) -> Input<'_> {
     Input {
         rest: bytes,
         step,
@@ -92,7 +92,7 @@ pub fn reading_of(bytes: &[u8], step: usize) -> Input<'_> {
 }
 
 /// A writer that doesn't fail.
-pub fn writing_to(alloc: Global, step: usize) -> Output {
+pub(crate) fn writing_to(alloc: Global, step: usize) -> Output {
     Output {
         taken: Vec::new(alloc),
         step,

@@ -4,9 +4,9 @@ ghost use Rattle.cmwq_types.specs.declared.limits.TheConstants.{MAX_LINES};
 ghost use Rattle.std.specs.Prelude.{◌≤◌, ⊤};
 
 use crate::checking::same;
+use crate::streams::{Failure, Output, reading_of, writing_to};
 use cmwq_actors::{Gate, OpenGate};
 use cmwq_interleaving::play;
-use cmwq_machine_tests::streams::{Failure, Output, reading_of, writing_to};
 use cmwq_play::{Marked, PlayError, read_text, run};
 use cmwq_types::{MAX_LINES, Scenario};
 use std::alloc::Global;

@@ -1,8 +1,8 @@
 //! The exit status and the line of each kind of fault that no run of the program comes to.
 use crate::checking::same;
+use crate::streams::{Output, writing_to};
 use cmwq_asm::AsmError;
 use cmwq_grammar::Why;
-use cmwq_machine_tests::streams::{Output, writing_to};
 use cmwq_outcome::fault::end_with;
 use cmwq_play::{Marked, PlayError};
 use std::alloc::Global;
