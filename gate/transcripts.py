@@ -50,7 +50,7 @@ def outputs_of(program, commands, room):
     ran = subprocess.run(["bash", f"{room}/commands"], cwd=f"{room}/here", env=env, stdin=subprocess.DEVNULL, stdout=subprocess.PIPE, stderr=subprocess.STDOUT, timeout=300)
     parts = re.split(rb"\n" + MARK.encode() + rb" \d+ (\d+)\n", ran.stdout)
     for printed, status in zip(parts[::2], parts[1::2]):
-        yield [*map(shown, printed.splitlines(True)), *([f"[{status.decode()}]"] if status != b"0" else [])]
+        yield [*map(shown, re.findall(rb"[^\n]*\n|[^\n]+", printed)), *([f"[{status.decode()}]"] if status != b"0" else [])]
 
 
 def faults_of(program, path):

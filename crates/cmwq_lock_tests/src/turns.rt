@@ -1,4 +1,4 @@
-//! What no clause says of the lock: that its calls succeed, for one thread and for two, and what a refused allocation leaves.
+//! What no clause says of the lock: that its calls succeed, for one thread and for two.
 ghost use Rattle.std.specs.Prelude.{◌≡◌, ◌<◌, ◌≤◌, ◌^◌, [], length, vec_capacity, IfOk};
 ghost use Rattle.std.proofs.Common.{lit≤};
 ghost use Rattle.cmwq_lock.specs.Tokens.{IsDrawnOf, IsOpenerOf, IsPassOf};
@@ -9,7 +9,6 @@ use cmwq_types::NoMemory;
 use std::alloc::Global;
 use std::process::Abort;
 use std::sync::Wait;
-use std::test::Fail;
 use std::thread::{Threads, join};
 
 /// A log of at most eight pairs of ticket and caller.
@@ -274,23 +273,4 @@ fn refuses_a_pass_while_64_are_out(rt: HostRuntime) {
     let drawn = drawn_by(&rt, &lock, last);
     let (_last, _, _) = lock.take(&rt, drawn, Enter);
     let (_lock, _opener) = not_closed(&rt, lock, opener, 64);
-}
-
-// It passes with any one allocation refused, and the second call answers as ever.
-#[test]
-fn opens_or_answers_no_memory(rt: HostRuntime) -> Result<(), Fail> {
-    for _ in 0..2 {
-        let Ok(kept) = empty(rt.alloc()) else {
-            continue;
-        };
-        let Ok((lock, opener)) = TicketLock::open(rt.alloc(), kept) else {
-            continue;
-        };
-        let Ok(kept) = lock.close(opener) else {
-            panic!(rt; "no pass was given")
-        };
-        same(&rt, "no turn", kept.pairs.len(), 0);
-        return Ok(());
-    }
-    panic!(rt; "one allocation alone is refused")
 }
