@@ -1,17 +1,27 @@
 -- A command more, and an argument more.
-use Rattle.std.proofs.Common.{◌≡◌, ◌∙◌, ◌||◌, Bool, IfOk, Result, ap, ℕ}
+use Rattle.std.proofs.Common.{◌≡◌, ◌∙◌, ◌||◌, Bool, Err, IfOk, Ok, Result, ap, ℕ}
 use Rattle.std.proofs.lemmas.Result.{IfOk-weaker}
-use Rattle.clap.specs.Words.{AddsArg, AddsSubcommand, App, Rule, Text, app_of, rule_of, shape_of, with_rule, with_subcommand}
+use Rattle.clap.specs.Words.{AddsArg, App, Rule, Text, app_of, rule_of, shape_of, with_rule, with_subcommand}
 use Rattle.clap.specs.declared.builder.arg.Arg.{Arg}
 use Rattle.clap.specs.declared.builder.command.Command.{Command}
-use Rattle.cmwq_command_line.specs.CommandLine.{IsArgument, IsCommand, several_rule}
+use Rattle.cmwq_command_line.specs.CommandLine.{IsArgument, IsCommand, WithMore, several_rule}
 
-pub joined : (old sub new : Command) (before more : App) → app_of old ≡ before → IsCommand more sub → AddsSubcommand old sub new
-    → app_of new ≡ with_subcommand before more.top
-joined old sub new before more program command adds =
+pub joined : {E : Type 0} (old new : Command) (sub : Result Command E) (before more : App) → WithMore old sub new → app_of old ≡ before
+    → IfOk sub (IsCommand more) → app_of new ≡ with_subcommand before more.top
+unfolding WithMore
+joined old new (Ok one) before more adds program command =
     adds.shape command.1
-    ∙ ap (λ (app : App). with_subcommand app (shape_of sub)) program
+    ∙ ap (λ (app : App). with_subcommand app (shape_of one)) program
     ∙ ap (λ (app : App). with_subcommand before app.top) command.0
+joined old new (Err _) before more adds program command = elim adds [ ]
+
+-- the same, where there may be no memory for it
+pub joined_last : {E F : Type 0} (old : Command) (sub : Result Command E) (before more : App) (result : Result Command F)
+    → IfOk result (λ new. WithMore old sub new) → app_of old ≡ before → IfOk sub (IsCommand more)
+    → IfOk result (λ new. app_of new ≡ with_subcommand before more.top)
+joined_last old sub before more result added program command =
+    IfOk-weaker result (λ new. WithMore old sub new) (λ new. app_of new ≡ with_subcommand before more.top)
+    (λ new adds. joined old new sub before more adds program command) added
 
 -- an argument with this change
 pub changed : (old new : Arg) (rule : Rule) (change : Rule → Rule) → IsArgument rule old → rule_of new ≡ change (rule_of old) → new.global ≡ old.global
@@ -26,9 +36,9 @@ spanning arg id name start end least most begins ends argument = (
   argument.1,
 )
 
-pub given : (old new : Command) (arg : Arg) (before : App) (rule : Rule) → IsCommand before old → IsArgument rule arg → AddsArg old arg new
+pub given : (old new : Command) (arg : Arg) (before : App) (rule : Rule) → AddsArg old arg new → IsCommand before old → IsArgument rule arg
     → IsCommand (with_rule before rule) new
-given old new arg before rule command argument adds = (
+given old new arg before rule adds command argument = (
   adds.shape argument.1
       ∙ ap (λ (app : App). with_rule app (rule_of arg)) command.0
       ∙ ap (λ (one : Rule). with_rule before one) argument.0,
@@ -36,7 +46,7 @@ given old new arg before rule command argument adds = (
 )
 
 -- the same, where there may be no memory for it
-pub given_last : {E : Type 0} (old : Command) (arg : Arg) (before : App) (rule : Rule) (result : Result Command E) → IsCommand before old → IsArgument rule arg
-    → IfOk result (λ new. AddsArg old arg new) → IfOk result (λ new. IsCommand (with_rule before rule) new)
-given_last old arg before rule result command argument added =
-    IfOk-weaker result (λ new. AddsArg old arg new) (λ new. IsCommand (with_rule before rule) new) (λ new adds. given old new arg before rule command argument adds) added
+pub given_last : {E : Type 0} (old : Command) (arg : Arg) (before : App) (rule : Rule) (result : Result Command E) → IfOk result (λ new. AddsArg old arg new)
+    → IsCommand before old → IsArgument rule arg → IfOk result (λ new. IsCommand (with_rule before rule) new)
+given_last old arg before rule result added command argument =
+    IfOk-weaker result (λ new. AddsArg old arg new) (λ new. IsCommand (with_rule before rule) new) (λ new adds. given old new arg before rule adds command argument) added

@@ -1,6 +1,6 @@
 -- The command line: its commands, what each takes, and the line of its version.
-use Rattle.std.specs.Prelude.{◌≡◌, ℕ, List, [], ◌∷◌, ◌++◌, false, true, codes, Some}
-use Rattle.clap.specs.Words.{App, Rule, Text, app_of, new_app, new_rule, rule_of, with_rule, with_subcommand}
+use Rattle.std.specs.Prelude.{◌≡◌, ℕ, List, [], ◌∷◌, ◌++◌, Err, Ok, Result, false, true, codes, Some}
+use Rattle.clap.specs.Words.{AddsSubcommand, App, Rule, Text, app_of, new_app, new_rule, rule_of, with_rule, with_subcommand}
 use Rattle.clap.specs.declared.builder.arg.Arg.{Arg}
 use Rattle.clap.specs.declared.builder.command.Command.{Command}
 use Rattle.clap.specs.declared.builder.command.Command.TheViews.{out-Command as fields_of}
@@ -14,6 +14,11 @@ IsArgument rule arg = (rule_of arg ≡ rule) × (arg.global ≡ false)
 -- it is this command, none of whose arguments holds in another one
 abbrev pub IsCommand : App → Command → Type 0
 IsCommand app command = (app_of command ≡ app) × ((fields_of command).has_globals ≡ false)
+
+-- the new one is the program with the command more, which there is
+unfoldable pub WithMore : {E : Type 0} → Command → Result Command E → Command → Type 0
+WithMore program (Ok more) new = AddsSubcommand program more new
+WithMore program (Err _) new = ⊥
 
 -- an argument that has to be given
 abbrev pub required_rule : Text → Rule

@@ -1,7 +1,7 @@
 //! The program's commands, and the words that they take.
 
 ghost use Rattle.clap.specs.Words.{app_of, new_app, new_rule};
-ghost use Rattle.cmwq_command_line.specs.CommandLine.{IsArgument, IsCommand, asking_command, asm_command, bare_program, check_command, command_line, command_on, debug_command, draw_command, eight_commands, explore_command, flag_rule, four_commands, never_command, new_command, play_command, required_rule, run_command, several_rule, show_command, spanned_command, times_command, trace_command, twelve_commands, value_rule, why_command};
+ghost use Rattle.cmwq_command_line.specs.CommandLine.{IsArgument, IsCommand, WithMore, asking_command, asm_command, bare_program, check_command, command_line, command_on, debug_command, draw_command, eight_commands, explore_command, flag_rule, four_commands, list_command, never_command, new_command, play_command, required_rule, run_command, several_rule, settle_command, show_command, spanned_command, times_command, trace_command, twelve_commands, value_rule, why_command};
 ghost use Rattle.std.specs.Prelude.{◌≡◌, ◌≤◌, IfOk, codes};
 
 use crate::help;
@@ -13,58 +13,49 @@ use std::ops::RangeInclusive;
 pub fn command_line<'a>(alloc: Global) -> Result<Command<'a>, AllocError>
     ensures { IfOk result (λ r. app_of r ≡ command_line) }
 {
-    let program = twelve_commands(alloc)?
-        .subcommand(times_command(alloc)?)?
-        .subcommand(trace_command(alloc)?)?;
-    Ok(program)
+    let program = with(twelve_commands(alloc)?, times_command(alloc))?;
+    with(program, trace_command(alloc))
 }
 
 /// The program with its first twelve commands.
 fn twelve_commands<'a>(alloc: Global) -> Result<Command<'a>, AllocError>
     ensures { IfOk result (λ r. app_of r ≡ twelve_commands) }
 {
-    let settle = on_text(
-        alloc,
-        "settle",
-        "Writes a scenario's listing with as many `next` more as make the machine quiet",
-        help::SETTLE,
-    );
-    let program = eight_commands(alloc)?
-        .subcommand(settle?)?
-        .subcommand(draw_command(alloc)?)?
-        .subcommand(why_command(alloc)?)?
-        .subcommand(explore_command(alloc)?)?;
-    Ok(program)
+    let program = with(eight_commands(alloc)?, settle_command(alloc))?;
+    let program = with(program, draw_command(alloc))?;
+    let program = with(program, why_command(alloc))?;
+    with(program, explore_command(alloc))
 }
 
 /// The program with its first eight commands.
 fn eight_commands<'a>(alloc: Global) -> Result<Command<'a>, AllocError>
     ensures { IfOk result (λ r. app_of r ≡ eight_commands) }
 {
-    let program = four_commands(alloc)?
-        .subcommand(show_command(alloc)?)?
-        .subcommand(debug_command(alloc)?)?
-        .subcommand(play_command(alloc)?)?
-        .subcommand(check_command(alloc)?)?;
-    Ok(program)
+    let program = with(four_commands(alloc)?, show_command(alloc))?;
+    let program = with(program, debug_command(alloc))?;
+    let program = with(program, play_command(alloc))?;
+    with(program, check_command(alloc))
 }
 
 /// The program with its first four commands.
 fn four_commands<'a>(alloc: Global) -> Result<Command<'a>, AllocError>
     ensures { IfOk result (λ r. app_of r ≡ four_commands) }
 {
-    let list = on_text(
-        alloc,
-        "list",
-        "Writes a scenario's listing to standard output",
-        help::LIST,
-    );
-    let program = bare_program(alloc)
-        .subcommand(new_command(alloc)?)?
-        .subcommand(run_command(alloc)?)?
-        .subcommand(list?)?
-        .subcommand(asm_command(alloc)?)?;
-    Ok(program)
+    let program = with(bare_program(alloc), new_command(alloc))?;
+    let program = with(program, run_command(alloc))?;
+    let program = with(program, list_command(alloc))?;
+    with(program, asm_command(alloc))
+}
+
+/// The program with this command more, where there was memory for it.
+#[tactic(auto, unfolding(crate::specs::CommandLine::WithMore))]
+fn with<'a>(
+    program: Command<'a>,
+    command: Result<Command<'a>, AllocError>,
+) -> Result<Command<'a>, AllocError>
+    ensures { IfOk result (λ r. WithMore program.entry command.entry r) }
+{
+    program.subcommand(command?)
 }
 
 /// The program without its commands.
@@ -115,6 +106,18 @@ fn run_command<'a>(alloc: Global) -> Result<Command<'a>, AllocError>
     ))
 }
 
+/// The command that lists a scenario.
+fn list_command<'a>(alloc: Global) -> Result<Command<'a>, AllocError>
+    ensures { IfOk result (IsCommand list_command) }
+{
+    on_text(
+        alloc,
+        "list",
+        "Writes a scenario's listing to standard output",
+        help::LIST,
+    )
+}
+
 /// The command that makes an image.
 fn asm_command<'a>(alloc: Global) -> Result<Command<'a>, AllocError>
     ensures { IfOk result (IsCommand asm_command) }
@@ -156,18 +159,18 @@ fn debug_command<'a>(alloc: Global) -> Result<Command<'a>, AllocError>
 fn play_command<'a>(alloc: Global) -> Result<Command<'a>, AllocError>
     ensures { IfOk result (IsCommand play_command) }
 {
+    let command = on_text(
+        alloc,
+        "play",
+        "Carries out all actors of a scenario at once, and writes the order that came out, as a scenario of one actor",
+        help::PLAY,
+    )?;
     let capacity = argument(
         alloc,
         "N",
         "How many instructions the machine takes at most, 1 to 4096",
     );
-    on_text(
-        alloc,
-        "play",
-        "Carries out all actors of a scenario at once, and writes the order that came out, as a scenario of one actor",
-        help::PLAY,
-    )?
-    .arg(capacity.long("capacity"))
+    command.arg(capacity.long("capacity"))
 }
 
 /// The command that tells files' verdicts.
@@ -182,6 +185,18 @@ fn check_command<'a>(alloc: Global) -> Result<Command<'a>, AllocError>
         help::CHECK,
     )
     .arg(files.action(ArgAction::Append))
+}
+
+/// The command that lists a scenario that goes on until its machine is quiet.
+fn settle_command<'a>(alloc: Global) -> Result<Command<'a>, AllocError>
+    ensures { IfOk result (IsCommand settle_command) }
+{
+    on_text(
+        alloc,
+        "settle",
+        "Writes a scenario's listing with as many `next` more as make the machine quiet",
+        help::SETTLE,
+    )
 }
 
 /// The command that draws a run.
@@ -244,36 +259,38 @@ fn why_command<'a>(alloc: Global) -> Result<Command<'a>, AllocError>
 fn asking_command<'a>(alloc: Global) -> Result<Command<'a>, AllocError>
     ensures { IfOk result (IsCommand asking_command) }
 {
+    let command = on_text(
+        alloc,
+        "why",
+        "Tells why a work doesn't get on, or what a flush waits for, wherever that changes",
+        help::WHY,
+    )?;
     let work = optional(
         alloc,
         "WORK",
         "The work's name; without it --flush has to be given",
     );
-    on_text(
-        alloc,
-        "why",
-        "Tells why a work doesn't get on, or what a flush waits for, wherever that changes",
-        help::WHY,
-    )?
-    .arg(work)?
-    .arg(valued(
-        alloc,
-        "F",
-        "flush",
-        "The flush of this number, as the run tells it, in place of a work",
-    ))?
-    .arg(valued(
-        alloc,
-        "K",
-        "at",
-        "Looks at position K alone, behind the first K instructions",
-    ))
+    command
+        .arg(work)?
+        .arg(valued(
+            alloc,
+            "F",
+            "flush",
+            "The flush of this number, as the run tells it, in place of a work",
+        ))?
+        .arg(valued(
+            alloc,
+            "K",
+            "at",
+            "Looks at position K alone, behind the first K instructions",
+        ))
 }
 
 /// The command that looks through all orders.
 fn explore_command<'a>(alloc: Global) -> Result<Command<'a>, AllocError>
     ensures { IfOk result (IsCommand explore_command) }
 {
+    let command = never_command(alloc)?;
     let before = several(
         alloc,
         "BEFORE",
@@ -282,20 +299,24 @@ fn explore_command<'a>(alloc: Global) -> Result<Command<'a>, AllocError>
         &["A", "B"],
         "Actor B begins only when actor A has ended; may be given again",
     );
-    never_command(alloc)?
-        .arg(before.action(ArgAction::Append))?
-        .arg(valued(
-            alloc,
-            "N",
-            "limit",
-            "How many states are looked at, at most: 1 to 1000000, and 100000 if not given",
-        ))
+    command.arg(before.action(ArgAction::Append))?.arg(valued(
+        alloc,
+        "N",
+        "limit",
+        "How many states are looked at, at most: 1 to 1000000, and 100000 if not given",
+    ))
 }
 
 /// The same with the options that say what no order may come to.
 fn never_command<'a>(alloc: Global) -> Result<Command<'a>, AllocError>
     ensures { IfOk result (IsCommand never_command) }
 {
+    let command = on_text(
+        alloc,
+        "explore",
+        "Tells whether some order of the actors' instructions comes to what never may be, and shows the shortest",
+        help::EXPLORE,
+    )?;
     let works = several(
         alloc,
         "WORK",
@@ -304,30 +325,31 @@ fn never_command<'a>(alloc: Global) -> Result<Command<'a>, AllocError>
         &["WORK", "WORK"],
         "Asks whether the work runs; with two, whether both run at once; with --after, whether it is pending or runs",
     );
-    on_text(
-        alloc,
-        "explore",
-        "Tells whether some order of the actors' instructions comes to what never may be, and shows the shortest",
-        help::EXPLORE,
-    )?
-    .arg(valued(
-        alloc,
-        "ACTOR",
-        "after",
-        "Asks of --never WORK only where this actor has ended",
-    ))?
-    .arg(works)?
-    .arg(flag(
-        alloc,
-        "stuck",
-        "Asks whether some actor hasn't ended, and nothing can go on",
-    ))
+    command
+        .arg(valued(
+            alloc,
+            "ACTOR",
+            "after",
+            "Asks of --never WORK only where this actor has ended",
+        ))?
+        .arg(works)?
+        .arg(flag(
+            alloc,
+            "stuck",
+            "Asks whether some actor hasn't ended, and nothing can go on",
+        ))
 }
 
 /// The command that tells where the time went.
 fn times_command<'a>(alloc: Global) -> Result<Command<'a>, AllocError>
     ensures { IfOk result (IsCommand times_command) }
 {
+    let command = on_text(
+        alloc,
+        "times",
+        "Tells of each request for a work how long it waited, for what, burned and slept, and sums of queues and CPUs",
+        help::TIMES,
+    )?;
     let sweep = several(
         alloc,
         "SWEEP",
@@ -336,15 +358,10 @@ fn times_command<'a>(alloc: Global) -> Result<Command<'a>, AllocError>
         &["QUEUE", "LOW..HIGH"],
         "Tells what the run comes to for each of these values of QUEUE's max_active: from 1 to 512, at most 64 of them",
     );
-    on_text(
-        alloc,
-        "times",
-        "Tells of each request for a work how long it waited, for what, burned and slept, and sums of queues and CPUs",
-        help::TIMES,
-    )?
-    .arg(flag(alloc, "json", "Writes each line as a JSON object"))?
-    .arg(flag(alloc, "whom", "Tells for whom works waited, too"))?
-    .arg(sweep)
+    command
+        .arg(flag(alloc, "json", "Writes each line as a JSON object"))?
+        .arg(flag(alloc, "whom", "Tells for whom works waited, too"))?
+        .arg(sweep)
 }
 
 /// The command that writes a run for other tools.

@@ -12,5 +12,4 @@ returns c =
     let files =
     changed c.argument-files.result c.action.result (required_rule (codes "FILE")) (λ (r : Rule). record r { action = Some Append }) c.argument-files.ensures
     (ap rule_of c.action.ensures) (ap (λ (a : Arg). a.global) c.action.ensures) in
-    let whole = given_last _ c.action.result _ _ _ c.command.ensures files c.arg.ensures in
-    whole
+    given_last _ c.action.result _ _ _ c.arg.ensures c.command.ensures files

@@ -1,10 +1,10 @@
 use Rattle.cmwq_command_line.specs.CommandLine.{check_command, debug_command, play_command, show_command}
-use Rattle.cmwq_command_line.proofs.CommandLemmas.{joined}
+use Rattle.cmwq_command_line.proofs.CommandLemmas.{joined, joined_last}
 use Rattle.cmwq_command_line.proofs.commands.eight_commands.Goals as goal
 
 pub returns : goal.returns
 returns c =
-    let with_show = joined _ _ _ _ show_command c.in_ok-four_commands.ensures c.in_ok-show_command.ensures c.in_ok-subcommand.ensures in
-    let with_debug = joined _ _ _ _ debug_command with_show c.in_ok-debug_command.ensures c.in_ok-subcommand-2.ensures in
-    let with_play = joined _ _ _ _ play_command with_debug c.in_ok-play_command.ensures c.in_ok-subcommand-3.ensures in
-    joined _ _ _ _ check_command with_play c.in_ok-check_command.ensures c.in_ok-program.ensures
+    let with_show = joined _ _ c.show_command.result _ show_command c.in_ok-program.ensures c.in_ok-four_commands.ensures c.show_command.ensures in
+    let with_debug = joined _ _ c.debug_command.result _ debug_command c.in_ok-program-2.ensures with_show c.debug_command.ensures in
+    let with_play = joined _ _ c.play_command.result _ play_command c.in_ok-program-3.ensures with_debug c.play_command.ensures in
+    joined_last _ c.check_command.result _ check_command _ c.with-4.ensures with_play c.check_command.ensures

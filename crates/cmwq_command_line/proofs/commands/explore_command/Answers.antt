@@ -13,6 +13,5 @@ returns c =
     let before =
     changed c.several-before.result c.action.result (several_rule (codes "BEFORE") (codes "before") 2 2) (λ (r : Rule). record r { action = Some Append }) two
     (ap rule_of c.action.ensures) (ap (λ (a : Arg). a.global) c.action.ensures) in
-    let with_before = given _ _ c.action.result _ _ c.in_ok-never_command.ensures before c.in_ok-arg.ensures in
-    let whole = given_last _ c.valued.result _ _ _ with_before c.valued.ensures c.arg-2.ensures in
-    whole
+    let with_before = given _ _ c.action.result _ _ c.in_ok-arg.ensures c.in_ok-command.ensures before in
+    given_last _ c.valued.result _ _ _ c.arg-2.ensures with_before c.valued.ensures

@@ -11,5 +11,4 @@ returns c =
     let capacity =
     changed c.argument-capacity.result c.long.result (required_rule (codes "N")) (λ (r : Rule). record r { long = Some (codes "capacity") }) c.argument-capacity.ensures
     (ap rule_of c.long.ensures) (ap (λ (a : Arg). a.global) c.long.ensures) in
-    let whole = given_last _ c.long.result _ _ _ c.in_ok-on_text.ensures capacity c.arg.ensures in
-    whole
+    given_last _ c.long.result _ _ _ c.arg.ensures c.in_ok-command.ensures capacity

@@ -3,6 +3,5 @@ use Rattle.cmwq_command_line.proofs.commands.run_command.Goals as goal
 
 pub returns : goal.returns
 returns c =
-    let with_settle = given _ _ c.settle_flag.result _ _ c.in_ok-on_text.ensures c.settle_flag.ensures c.in_ok-arg.ensures in
-    let whole = given_last _ c.flag.result _ _ _ with_settle c.flag.ensures c.arg-2.ensures in
-    whole
+    let with_settle = given _ _ c.settle_flag.result _ _ c.in_ok-arg.ensures c.in_ok-on_text.ensures c.settle_flag.ensures in
+    given_last _ c.flag.result _ _ _ c.arg-2.ensures with_settle c.flag.ensures

@@ -3,8 +3,7 @@ use Rattle.cmwq_command_line.proofs.commands.spanned_command.Goals as goal
 
 pub returns : goal.returns
 returns c =
-    let with_settle = given _ _ c.settle_flag.result _ _ c.in_ok-on_text.ensures c.settle_flag.ensures c.in_ok-arg.ensures in
-    let with_svg = given _ _ c.flag.result _ _ with_settle c.flag.ensures c.in_ok-arg-2.ensures in
-    let with_from = given _ _ c.valued.result _ _ with_svg c.valued.ensures c.in_ok-arg-3.ensures in
-    let whole = given_last _ c.valued-2.result _ _ _ with_from c.valued-2.ensures c.arg-4.ensures in
-    whole
+    let with_settle = given _ _ c.settle_flag.result _ _ c.in_ok-arg.ensures c.in_ok-on_text.ensures c.settle_flag.ensures in
+    let with_svg = given _ _ c.flag.result _ _ c.in_ok-arg-2.ensures with_settle c.flag.ensures in
+    let with_from = given _ _ c.valued.result _ _ c.in_ok-arg-3.ensures with_svg c.valued.ensures in
+    given_last _ c.valued-2.result _ _ _ c.arg-4.ensures with_from c.valued-2.ensures
