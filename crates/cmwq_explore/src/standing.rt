@@ -40,7 +40,7 @@ impl<M: Machine> Model for Standing<M> {
 impl<M: Machine> Standing<M> {
     /// Where nobody has begun.
     #[tactic(auto, using(crate::proofs::PlanLemmas::begins_whole))]
-    pub(crate) fn start(alloc: Global, plan: Arc<Plan>) -> Result<Standing<M>, NoMemory>
+    fn start(alloc: Global, plan: Arc<Plan>) -> Result<Standing<M>, NoMemory>
         ensures plan { IfOk result (λ s. s.plan ≡ plan.value) }
         ensures start { IfOk result (λ s. s.explored ≡ start plan.value.scenario) }
     {
@@ -54,6 +54,14 @@ impl<M: Machine> Standing<M> {
             at,
             waits,
         })
+    }
+
+    /// Where nobody has begun, of a plan that is shared.
+    pub(crate) fn start_on(alloc: Global, plan: &Arc<Plan>) -> Result<Standing<M>, NoMemory>
+        ensures plan { IfOk result (λ s. s.plan ≡ plan.now.value) }
+        ensures start { IfOk result (λ s. s.explored ≡ start plan.now.value.scenario) }
+    {
+        Standing::start(alloc, Arc::clone(plan)?)
     }
 
     /// The same, to be changed alone.
