@@ -141,7 +141,7 @@ fn begin<M: Machine>(
     requires none { seen.old ≡ [] }
     ensures { IfOk result (λ fails. Begins plan.now.value question seen.new fails) }
 {
-    let start = Standing::<M>::start_on(alloc, plan)?;
+    let start = Standing::<M>::start(alloc, plan)?;
     let asked = Asked {
         question,
         limit: 1,

@@ -42,7 +42,7 @@ pub fn retrace<M: Machine>(
     ensures rests { IfOk result (λ told. (e : Explored) → reached plan.now.value.scenario plan.now.value.before order.now ≡ Some e
         → told.rests.items ≡ rests plan.now.value.scenario e) }
 {
-    let mut standing = Standing::<M>::start_on(alloc, plan)?;
+    let mut standing = Standing::<M>::start(alloc, plan)?;
     standing.retrace(alloc, order)
 }
 

@@ -105,7 +105,7 @@ fn replayed<M: Machine>(
     ensures plan { IfOk result (λ standing. standing.plan ≡ plan.now.value) }
     ensures reached { IfOk result (λ standing. (e : Explored) → reached plan.now.value.scenario plan.now.value.before order.now ≡ Some e → standing.explored ≡ e) }
 {
-    let mut standing = Standing::<M>::start_on(alloc, plan)?;
+    let mut standing = Standing::<M>::start(alloc, plan)?;
     standing.replay(order);
     Ok(standing)
 }

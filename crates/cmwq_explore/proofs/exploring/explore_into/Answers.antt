@@ -14,5 +14,5 @@ pub returns-in-Deep-clause-answer : goal.returns-in-Deep-clause-answer
 returns-in-Deep-clause-answer g c =
     let plan = c.args.plan.now.value in (
       comes_deep plan plan c.args.question c.search.new.seen c.in_ok-search.field-0 c.in-Deep.depth refl c.in-Deep.is c.in_ok-search.ensures.comes,
-      full_states c.args.limit c.len-in-Deep.result c.search.new.seen c.in-Deep.depth c.len-in-Deep.ensures.len (c.in_ok-search.ensures.full c.in-Deep.depth (ap Ok c.in-Deep.is)),
+      full_states c.args.limit c.len.result c.search.new.seen c.in-Deep.depth c.len.ensures.len (c.in_ok-search.ensures.full c.in-Deep.depth (ap Ok c.in-Deep.is)),
     )
