@@ -6,9 +6,10 @@ use Rattle.cmwq_types.specs.declared.instr.Instr.{Instr}
 use Rattle.cmwq_types.specs.declared.instr.Instr.TheVariants as instr
 use Rattle.cmwq_types.specs.declared.limits.TheConstants.{MAX_LINES}
 use Rattle.cmwq_table.specs.State.{State}
-use Rattle.cmwq_orders.specs.Orders.{Explored, lines_of}
+use Rattle.cmwq_orders.specs.Orders.{Explored, lines_of, taken}
 use Rattle.cmwq_orders.specs.Sizes.{IsWhole}
 use Rattle.cmwq_orders.specs.declared.choice.Before.{Before}
+use Rattle.cmwq_orders.specs.declared.choice.Choice.{Choice}
 
 -- a scenario, and who has to wait for whom
 pub record PlanContents : Type 0 where
@@ -59,3 +60,8 @@ pub record IsStanding (loaded : ScenarioContents) (t : Stood) : Type 0 where
 abbrev pub TakenAs : Option Explored → Option Instr → Explored → Option Instr → Type 0
 TakenAs next i new (Some j) = (next ≡ Some new) × (i ≡ Some j)
 TakenAs next i new None = next ≡ None
+
+-- What a choice leads to from where they stand; none where it can't be taken.
+abbrev pub IsLed : Stood → Choice → Option Stood → Type 0
+IsLed s c (Some t) = (t.plan ≡ s.plan) × (taken s.plan.scenario s.plan.before s.explored c ≡ Some t.explored)
+IsLed s c None = taken s.plan.scenario s.plan.before s.explored c ≡ None

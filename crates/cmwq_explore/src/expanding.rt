@@ -1,4 +1,5 @@
 //! What each choice of a state leads to, added to what was seen.
+ghost use Rattle.cmwq_explore.specs.Plans.{IsLed};
 ghost use Rattle.cmwq_explore.specs.Searching.{HasNext, IsFull, IsMarked, IsReady, Progress, knows};
 ghost use Rattle.cmwq_stored.specs.Stored.{stored_of};
 ghost use Rattle.cmwq_explore.specs.Waiting.{AreWaiting};
@@ -41,6 +42,27 @@ pub(crate) enum Tried {
 }
 
 impl<M: Machine> Standing<M> {
+    /// What the choice leads to; `None` where it can't be taken.
+    fn led(&self, choice: Choice) -> Result<Option<Standing<M>>, NoMemory>
+        ensures { IfOk result (IsLed self.now choice) }
+    {
+        if !self.may_take(choice) {
+            return Ok(None);
+        }
+        Ok(self.copy()?.taken(choice))
+    }
+
+    /// The same, where the choice was taken.
+    fn taken(self, choice: Choice) -> Option<Standing<M>>
+        ensures { IsLed self choice result }
+    {
+        let mut next = self;
+        match next.take(choice) {
+            Some(_) => Some(next),
+            None => None,
+        }
+    }
+
     /// What is noted of it as what the choice leads to, so deep.
     pub(crate) fn marked(&self, asked: Asked, choice: Choice, depth: u16) -> Result<Mark, NoMemory>
         ensures noted { IfOk result (λ mark. IsMarked self.now.plan.scenario self.now.plan.before asked.question self.now.explored mark) }
@@ -158,12 +180,8 @@ fn try_choice<M: Machine>(
     ensures full { result ≡ Ok Tried.Full → IsFull asked.limit seen.new asked.depth }
     ensures waiting { result ≡ Ok Tried.Going → AreWaiting standing.now.plan seen.new waiting.new }
 {
-    if !standing.may_take(choice) {
-        return Ok(Tried::Going);
-    }
-    let mut next = standing.copy()?;
-    match next.take(choice) {
-        Some(_) => add_next(seen, waiting, standing, next, asked, choice),
+    match standing.led(choice)? {
+        Some(next) => add_next(seen, waiting, standing, next, asked, choice),
         None => Ok(Tried::Going),
     }
 }

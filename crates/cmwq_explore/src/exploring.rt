@@ -1,5 +1,6 @@
 //! The search through all orders, and its answer.
 ghost use Rattle.cmwq_explore.specs.Outcomes.{IsAnswer, IsCounted, IsFoundWithin, IsShort};
+ghost use Rattle.cmwq_explore.specs.declared.exploring.Ending.TheVariants as ending;
 ghost use Rattle.cmwq_explore.specs.Searching.{Begins, Comes, Handles, IsAhead, IsFull};
 ghost use Rattle.cmwq_explore.specs.Waiting.{AreWaiting};
 ghost use Rattle.std.specs.Prelude.{◌≡◌, ℕ, [], IfOk, Ok, false};
@@ -72,20 +73,48 @@ pub fn explore<M: Machine, P: Progress>(
     ensures short { IfOk result IsShort }
 {
     let mut seen = Seen::new(alloc);
-    if begin::<M>(alloc, plan, question, &mut seen)? {
+    explore_into::<M, P>(alloc, plan, question, limit, &mut seen, progress)
+}
+
+/// The same, adding to nothing what is seen.
+fn explore_into<M: Machine, P: Progress>(
+    alloc: Global,
+    plan: &Arc<Plan>,
+    question: Question,
+    limit: u32,
+    seen: &mut Seen,
+    progress: &mut P,
+) -> Result<Answer, NoMemory>
+    requires none { seen.old ≡ [] }
+    ensures answer { IfOk result (IsAnswer plan.now.value.scenario plan.now.value.before question limit) }
+    ensures short { IfOk result IsShort }
+{
+    if begin::<M>(alloc, plan, question, seen)? {
         return Ok(Answer::Found(Vec::new(alloc)));
     }
-    match search::<M, P>(alloc, plan, question, limit, &mut seen, progress)? {
-        Ending::Closed => Ok(Answer::Whole(tally_of(&seen))),
-        Ending::Failed => {
-            let order = order_to(alloc, plan, question, &seen, seen.len() - 1)?;
-            Ok(found(order, seen.len()))
-        }
+    match search::<M, P>(alloc, plan, question, limit, seen, progress)? {
+        Ending::Closed => Ok(Answer::Whole(tally_of(seen))),
+        Ending::Failed => found_last(alloc, plan, question, seen),
         Ending::Deep(depth) => Ok(Answer::GaveUp {
             states: seen.len(),
             depth,
         }),
     }
+}
+
+/// The order to the state that was added last, which is the first of the kind.
+fn found_last(
+    alloc: Global,
+    plan: &Arc<Plan>,
+    question: Question,
+    seen: &Seen,
+) -> Result<Answer, NoMemory>
+    requires { Comes plan.now.value question seen.now ending.Failed }
+    ensures answer { (limit : ℕ) → IfOk result (IsAnswer plan.now.value.scenario plan.now.value.before question limit) }
+    ensures short { IfOk result IsShort }
+{
+    let order = order_to(alloc, plan, question, seen, seen.len() - 1)?;
+    Ok(found(order, seen.len()))
 }
 
 /// This order, where an actor may have as many lines; else it is open, and no order of so many instructions comes to a state of the kind.
@@ -112,7 +141,7 @@ fn begin<M: Machine>(
     requires none { seen.old ≡ [] }
     ensures { IfOk result (λ fails. Begins plan.now.value question seen.new fails) }
 {
-    let start = Standing::<M>::start(alloc, Arc::clone(plan)?)?;
+    let start = Standing::<M>::start(alloc, plan)?;
     let asked = Asked {
         question,
         limit: 1,

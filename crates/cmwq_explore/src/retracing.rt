@@ -1,7 +1,7 @@
 //! An order told step by step, and where each actor stands at its end.
-ghost use Rattle.cmwq_explore.specs.Retracing.{rest_of, rests, stands_before, steps_of, waits_for};
-ghost use Rattle.cmwq_orders.specs.Orders.{Explored, reached};
-ghost use Rattle.std.specs.Prelude.{◌≡◌, IfOk, Some};
+ghost use Rattle.cmwq_explore.specs.Retracing.{rest_of, rests, stands_before, steps_from, steps_of, waits_for};
+ghost use Rattle.cmwq_orders.specs.Orders.{Explored, reached, reached_from};
+ghost use Rattle.std.specs.Prelude.{◌≡◌, IfOk, OnOk, Some};
 
 use crate::plan::Plan;
 use crate::standing::Standing;
@@ -42,21 +42,46 @@ pub fn retrace<M: Machine>(
     ensures rests { IfOk result (λ told. (e : Explored) → reached plan.now.value.scenario plan.now.value.before order.now ≡ Some e
         → told.rests.items ≡ rests plan.now.value.scenario e) }
 {
-    let mut standing = Standing::<M>::start(alloc, Arc::clone(plan)?)?;
-    let mut steps = Vec::with_capacity(alloc, order.len())?;
-    for choice in order {
-        let Some(instr) = standing.take(*choice) else {
-            unreachable!()
-        };
-        steps.push((*choice, instr))?;
-    }
-    Ok(Retraced {
-        steps,
-        rests: standing.rests(alloc)?,
-    })
+    let mut standing = Standing::<M>::start(alloc, plan)?;
+    standing.retrace(alloc, order)
 }
 
 impl<M: Machine> Standing<M> {
+    /// Tells an order from here, each of whose choices can be taken.
+    fn retrace(&mut self, alloc: Global, order: &[Choice]) -> Result<Retraced, NoMemory>
+        requires reached { (e : Explored) × (reached_from self.old.plan.scenario self.old.plan.before order.now self.old.explored ≡ Some e) }
+        ensures steps { IfOk result (λ told. told.steps.items ≡ steps_from self.old.plan.scenario self.old.plan.before order.now self.old.explored) }
+        ensures rests { IfOk result (λ told. (e : Explored) → reached_from self.old.plan.scenario self.old.plan.before order.now self.old.explored ≡ Some e
+            → told.rests.items ≡ rests self.old.plan.scenario e) }
+    {
+        let steps = self.take_all(alloc, order)?;
+        Ok(Retraced {
+            steps,
+            rests: self.rests(alloc)?,
+        })
+    }
+
+    /// Takes the choices of the order, each of which can be taken, and tells them, each with its instruction.
+    fn take_all(
+        &mut self,
+        alloc: Global,
+        order: &[Choice],
+    ) -> Result<Vec<(Choice, Instr)>, NoMemory>
+        requires reached { (e : Explored) × (reached_from self.old.plan.scenario self.old.plan.before order.now self.old.explored ≡ Some e) }
+        ensures plan { self.new.plan ≡ self.old.plan }
+        ensures steps { IfOk result (λ steps. steps.items ≡ steps_from self.old.plan.scenario self.old.plan.before order.now self.old.explored) }
+        ensures reached { OnOk result (reached_from self.old.plan.scenario self.old.plan.before order.now self.old.explored ≡ Some self.new.explored) }
+    {
+        let mut steps = Vec::with_capacity(alloc, order.len())?;
+        for choice in order {
+            let Some(instr) = self.take(*choice) else {
+                unreachable!()
+            };
+            steps.push((*choice, instr))?;
+        }
+        Ok(steps)
+    }
+
     /// Where each actor stands, in order.
     fn rests(&self, alloc: Global) -> Result<Vec<Rest>, NoMemory>
         ensures { IfOk result (λ told. told.items ≡ rests self.now.plan.scenario self.now.explored) }

@@ -3,10 +3,11 @@ ghost use Rattle.cmwq_explore.specs.Plans.{PlanContents, Stood, TakenAs};
 ghost use Rattle.cmwq_stored.specs.Stored.{stored_of};
 ghost use Rattle.cmwq_orders.specs.Orders.{awaits_time, cannot_come, comes, comes_later, flush_given, has_ended, instr_taken, is_astir, is_own, is_time_awaited, is_timed, is_waiting, may_begin, may_go, next_line, start, taken, taken_line, taken_own};
 ghost use Rattle.cmwq_table.specs.Counts.{pends};
+ghost use Rattle.cmwq_table.specs.State as states;
 ghost use Rattle.cmwq_table.specs.State.{pending_at};
 ghost use Rattle.cmwq_table.specs.Table.{table};
 ghost use Rattle.cmwq_types.specs.declared.limits.TheConstants.{MAX_LINES};
-ghost use Rattle.std.specs.Prelude.{◌≡◌, ◌+◌, ◌<◌, IfOk, IfSome, None, Some, false, length, slice_index_or, slice_set};
+ghost use Rattle.std.specs.Prelude.{◌≡◌, ◌+◌, ◌<◌, IfOk, IfSome, None, Some, false, length, replicate, slice_index_or, slice_set};
 
 use crate::plan::{Plan, goes_on};
 use cmwq_orders::Choice;
@@ -37,22 +38,58 @@ impl<M: Machine> Model for Standing<M> {
     ghost invariant = { λ s. IsStanding (M.loaded s.machine) (stood_at s.plan.value (M.state s.machine) s.at.items s.waits.items) };
 }
 
+/// Where the actors stand, each by how many lines it has carried out and by the flush that the last one gave.
+#[derive(Drop)]
+struct Actors {
+    at: Vec<u16>,
+    waits: Vec<Option<u16>>,
+}
+
+impl Actors {
+    /// So many, none of which has begun.
+    fn at_start(alloc: Global, count: usize) -> Result<Actors, NoMemory>
+        ensures { IfOk result (λ actors. (actors.at.items ≡ replicate count 0) × (actors.waits.items ≡ replicate count None)) }
+    {
+        let at = filled(alloc, 0, count)?;
+        Ok(Actors {
+            at,
+            waits: filled(alloc, None, count)?,
+        })
+    }
+
+    /// The same as these.
+    fn copy(alloc: Global, at: &[u16], waits: &[Option<u16>]) -> Result<Actors, NoMemory>
+        ensures { IfOk result (λ actors. (actors.at.items ≡ at.now) × (actors.waits.items ≡ waits.now)) }
+    {
+        let places = Vec::from_slice(alloc, at)?;
+        Ok(Actors {
+            at: places,
+            waits: Vec::from_slice(alloc, waits)?,
+        })
+    }
+}
+
+/// A machine that has carried out nothing of the plan's scenario.
+fn begun<M: Machine>(alloc: Global, plan: &Plan) -> Result<M, NoMemory>
+    ensures loaded { IfOk result (λ machine. M.loaded machine ≡ plan.now.scenario) }
+    ensures state { IfOk result (λ machine. M.state machine ≡ states.start plan.now.scenario) }
+{
+    M::begin(alloc, plan.shared_scenario()?)
+}
+
 impl<M: Machine> Standing<M> {
     /// Where nobody has begun.
     #[tactic(auto, using(crate::proofs::PlanLemmas::begins_whole))]
-    pub(crate) fn start(alloc: Global, plan: Arc<Plan>) -> Result<Standing<M>, NoMemory>
-        ensures plan { IfOk result (λ s. s.plan ≡ plan.value) }
-        ensures start { IfOk result (λ s. s.explored ≡ start plan.value.scenario) }
+    pub(crate) fn start(alloc: Global, plan: &Arc<Plan>) -> Result<Standing<M>, NoMemory>
+        ensures plan { IfOk result (λ s. s.plan ≡ plan.now.value) }
+        ensures start { IfOk result (λ s. s.explored ≡ start plan.now.value.scenario) }
     {
-        let machine = M::begin(alloc, plan.shared_scenario()?)?;
-        let count = plan.scenario().actors.len();
-        let at = filled(alloc, 0, count)?;
-        let waits = filled(alloc, None, count)?;
+        let actors = Actors::at_start(alloc, plan.scenario().actors.len())?;
         Ok(Standing {
-            plan,
-            machine,
-            at,
-            waits,
+            machine: begun(alloc, plan)?,
+            plan: Arc::clone(plan)?,
+            at: actors.at,
+            waits: actors.waits,
         })
     }
 
@@ -60,15 +97,12 @@ impl<M: Machine> Standing<M> {
     pub(crate) fn copy(&self) -> Result<Standing<M>, NoMemory>
         ensures { IfOk result (λ copy. copy ≡ self.now) }
     {
-        let alloc = *self.at.allocator();
-        let machine = self.machine.copy()?;
-        let at = Vec::from_slice(alloc, &self.at)?;
-        let waits = Vec::from_slice(alloc, &self.waits)?;
+        let actors = Actors::copy(*self.at.allocator(), &self.at, &self.waits)?;
         Ok(Standing {
+            machine: self.machine.copy()?,
             plan: Arc::clone(&self.plan)?,
-            machine,
-            at,
-            waits,
+            at: actors.at,
+            waits: actors.waits,
         })
     }
 

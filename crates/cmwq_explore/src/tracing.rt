@@ -2,7 +2,7 @@
 ghost use Rattle.cmwq_explore.specs.Searching.{IsGrown};
 ghost use Rattle.cmwq_explore.specs.Tracing.{IsOrderTo, IsSeenAt};
 ghost use Rattle.cmwq_explore.specs.Waiting.{AreWaiting};
-ghost use Rattle.cmwq_orders.specs.Orders.{Explored, reached};
+ghost use Rattle.cmwq_orders.specs.Orders.{Explored, reached, reached_from};
 ghost use Rattle.cmwq_orders.specs.Sizes.{IsWhole};
 ghost use Rattle.std.specs.Prelude.{◌≡◌, ◌<◌, IfOk, Some, length, reverse};
 
@@ -105,9 +105,19 @@ fn replayed<M: Machine>(
     ensures plan { IfOk result (λ standing. standing.plan ≡ plan.now.value) }
     ensures reached { IfOk result (λ standing. (e : Explored) → reached plan.now.value.scenario plan.now.value.before order.now ≡ Some e → standing.explored ≡ e) }
 {
-    let mut standing = Standing::<M>::start(alloc, Arc::clone(plan)?)?;
-    for choice in order {
-        let _ = standing.take(*choice);
-    }
+    let mut standing = Standing::<M>::start(alloc, plan)?;
+    standing.replay(order);
     Ok(standing)
+}
+
+impl<M: Machine> Standing<M> {
+    /// Takes the choices of the order.
+    fn replay(&mut self, order: &[Choice])
+        ensures plan { self.new.plan ≡ self.old.plan }
+        ensures reached { (e : Explored) → reached_from self.old.plan.scenario self.old.plan.before order.now self.old.explored ≡ Some e → self.new.explored ≡ e }
+    {
+        for choice in order {
+            let _ = self.take(*choice);
+        }
+    }
 }

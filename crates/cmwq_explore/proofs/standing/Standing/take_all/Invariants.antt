@@ -1,0 +1,14 @@
+use Rattle.std.proofs.Common.{◌≡◌, ◌++◌, Some, drop}
+use Rattle.cmwq_orders.specs.Orders.{Explored, reached_from}
+use Rattle.cmwq_explore.specs.Retracing.{steps_from}
+use Rattle.cmwq_explore.proofs.standing.Standing.take_all.Given as goal
+
+-- the steps so far, and those that are left, make the whole; and what is left can be taken
+abbrev pub invariant-loop-choice : goal.invariant-loop-choice
+invariant-loop-choice g l = record {
+  plan : l.self.plan ≡ l.fn.self.plan;
+  steps : l.steps.items ++ steps_from l.fn.self.plan.scenario l.fn.self.plan.before (drop l.choice-index l.order) l.self.explored
+      ≡ steps_from l.fn.self.plan.scenario l.fn.self.plan.before l.order l.fn.self.explored;
+  reached : (e : Explored) × (reached_from l.fn.self.plan.scenario l.fn.self.plan.before (drop l.choice-index l.order) l.self.explored ≡ Some e)
+      × (reached_from l.fn.self.plan.scenario l.fn.self.plan.before l.order l.fn.self.explored ≡ Some e);
+}
