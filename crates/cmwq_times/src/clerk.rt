@@ -1,12 +1,15 @@
 //! Who keeps the books of a run, and counts for whom its works wait; tells each instance as it ends, and the rest at the end.
+ghost use Rattle.cmwq_blame.specs.Blame.{no_blame};
+ghost use Rattle.cmwq_ledger.specs.Books.{books_begun};
 ghost use Rattle.cmwq_play.specs.Commands.{Writes};
 ghost use Rattle.cmwq_play.specs.Session.{CanIssue, Issues};
 ghost use Rattle.cmwq_streams.specs.Blocks.{Sends, SendsFront, SharesSink, kept, sink};
 ghost use Rattle.cmwq_streams.specs.Sending.{IsSendError};
 ghost use Rattle.cmwq_times.specs.Clerking.{IsBlameIfWithin, IsWithin, blame_kept, clerk_ends, clerk_told};
-ghost use Rattle.cmwq_times.specs.TimesText.{line_rows};
+ghost use Rattle.cmwq_times.specs.TimesText.{blame_if, line_rows};
 ghost use Rattle.cmwq_types.specs.Scenario.{expand_lines};
-ghost use Rattle.std.specs.Prelude.{◌≡◌, ◌*◌, ◌^◌, ◌↔◌, [], Err, IfErr, OnErr, OnOk, false, option_to_list, true};
+ghost use Rattle.cmwq_types.specs.Setting.{IsSetting};
+ghost use Rattle.std.specs.Prelude.{◌≡◌, ◌*◌, ◌^◌, ◌↔◌, [], Err, IfErr, IfOk, OnErr, OnOk, false, option_to_list, true};
 
 use crate::rows::LineRow;
 use crate::sums::{LineRows, Sums};
@@ -17,7 +20,7 @@ use cmwq_play::{Session, Teller};
 use cmwq_reports::{Format, Times};
 use cmwq_streams::{BlockWriter, PlayError, Sink};
 use cmwq_table::Machine;
-use cmwq_types::{Instr, Line, Scenario};
+use cmwq_types::{Instr, Line, NoMemory, Scenario};
 use std::alloc::Global;
 
 /// Keeps the books of a run, and tells each instance as it ends. It counts for whom works wait where that is told.
@@ -56,6 +59,18 @@ impl Teller for Clerk {
             line,
             &mut session.lines,
         )
+    }
+}
+
+/// Counts of for whom works wait, if they are asked for.
+fn open_blame(alloc: Global, scenario: &Scenario, whom: bool) -> Result<Option<Blame>, NoMemory>
+    requires { IsSetting scenario.now }
+    ensures { IfOk result (λ blame. blame ≡ blame_if whom (no_blame scenario.now)) }
+{
+    if whom {
+        Ok(Some(Blame::open(alloc, scenario)?))
+    } else {
+        Ok(None)
     }
 }
 
@@ -98,6 +113,23 @@ fn write_ended<W: Sink>(
 }
 
 impl Clerk {
+    /// Opens the books of a run of the scenario, and counts of for whom its works wait, if they are asked for.
+    pub(crate) fn open(alloc: Global, scenario: &Scenario, asked: Times) -> Result<Clerk, NoMemory>
+        requires { IsSetting scenario.now }
+        ensures begun { IfOk result (λ clerk. clerk.books ≡ books_begun scenario.now) }
+        ensures blame { IfOk result (λ clerk. clerk.blame ≡ blame_if asked.whom (no_blame scenario.now)) }
+        ensures asked { IfOk result (λ clerk. clerk.asked ≡ asked) }
+    {
+        let books = Books::open(alloc, scenario)?;
+        let blame = open_blame(alloc, scenario, asked.whom)?;
+        Ok(Clerk {
+            alloc,
+            asked,
+            books,
+            blame,
+        })
+    }
+
     /// Tells what is still there at the end of the run, for whom works waited, if that is told, and the sums.
     fn tell_end<M: Machine, W: Sink>(
         &mut self,

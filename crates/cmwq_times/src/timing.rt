@@ -10,19 +10,16 @@ ghost use Rattle.cmwq_times.specs.TimesOfRun.{IsTimed, IsTimedRun};
 ghost use Rattle.cmwq_times.specs.TimesText.{blame_if, times_text};
 ghost use Rattle.cmwq_types.specs.Faults.{IsValid};
 ghost use Rattle.cmwq_types.specs.Scenario.{expand_lines};
-ghost use Rattle.cmwq_types.specs.Setting.{IsSetting};
-ghost use Rattle.std.specs.Prelude.{◌≡◌, IfErr, IfOk, false};
+ghost use Rattle.std.specs.Prelude.{◌≡◌, IfErr, false};
 
 use crate::clerk::Clerk;
-use cmwq_blame::Blame;
 use cmwq_core::Core;
-use cmwq_ledger::Books;
 use cmwq_lines::ReplyLines;
 use cmwq_play::{Session, judge, read_text};
 use cmwq_reports::Times;
 use cmwq_streams::{BlockWriter, PlayError, Sink, Source};
 use cmwq_table::Machine;
-use cmwq_types::{Line, NoMemory, Scenario};
+use cmwq_types::{Line, Scenario};
 use std::alloc::Global;
 use std::sync::Arc;
 
@@ -70,31 +67,32 @@ fn time_scenario<M: Machine, W: Sink>(
 {
     let scenario = Arc::new(alloc, scenario)?;
     let machine = M::begin(alloc, Arc::clone(&scenario)?)?;
-    let books = Books::open(alloc, machine.scenario())?;
-    let blame = open_blame(alloc, machine.scenario(), asked.whom)?;
-    let clerk = Clerk {
-        alloc,
-        asked,
-        books,
-        blame,
-    };
-    time_actor(clerk, &scenario, &scenario.actors[0].lines, machine, writer)
+    time_machine(alloc, asked, &scenario, machine, writer)
 }
 
-/// Counts of for whom works wait, if they are asked for.
-fn open_blame(alloc: Global, scenario: &Scenario, whom: bool) -> Result<Option<Blame>, NoMemory>
-    requires { IsSetting scenario.now }
-    ensures { IfOk result (λ blame. blame ≡ blame_if whom (no_blame scenario.now)) }
+/// Issues the one actor's instructions on a machine at the scenario's start, and writes where the time went.
+fn time_machine<M: Machine, W: Sink>(
+    alloc: Global,
+    asked: Times,
+    scenario: &Scenario,
+    machine: M,
+    writer: &mut W,
+) -> Result<(), PlayError>
+    requires can { CanRun scenario.now }
+    requires loaded { M.loaded machine ≡ scenario.now }
+    requires start { M.state machine ≡ start scenario.now }
+    requires sound { W.failed writer.old ≡ false }
+    ensures writes { Writes (IsTimed asked scenario.now) (W.contents writer.old) (W.contents writer.new) (W.failed writer.new) result }
+    ensures why { IfErr result (λ error. IsSendError error) }
 {
-    if !whom {
-        return Ok(None);
-    }
-    Ok(Some(Blame::open(alloc, scenario)?))
+    let mut clerk = Clerk::open(alloc, machine.scenario(), asked)?;
+    let lines = &scenario.actors[0].lines;
+    time_actor(&mut clerk, scenario, lines, machine, writer)
 }
 
 /// Issues the lines' instructions on a machine at the scenario's start, and sends what the clerk tells of them.
 fn time_actor<M: Machine, W: Sink>(
-    clerk: Clerk,
+    clerk: &mut Clerk,
     scenario: &Scenario,
     lines: &[Line],
     machine: M,
@@ -102,13 +100,12 @@ fn time_actor<M: Machine, W: Sink>(
 ) -> Result<(), PlayError>
     requires loaded { M.loaded machine ≡ scenario.now }
     requires start { M.state machine ≡ start scenario.now }
-    requires begun { clerk.books ≡ books_begun scenario.now }
-    requires blame { clerk.blame ≡ blame_if clerk.asked.whom (no_blame scenario.now) }
+    requires begun { clerk.old.books ≡ books_begun scenario.now }
+    requires blame { clerk.old.blame ≡ blame_if clerk.old.asked.whom (no_blame scenario.now) }
     requires sound { W.failed writer.old ≡ false }
-    ensures writes { Writes (λ output. output ≡ times_text clerk.asked scenario.now (expand_lines lines.now)) (W.contents writer.old) (W.contents writer.new) (W.failed writer.new) result }
+    ensures writes { Writes (λ output. output ≡ times_text clerk.old.asked scenario.now (expand_lines lines.now)) (W.contents writer.old) (W.contents writer.new) (W.failed writer.new) result }
     ensures why { IfErr result (λ error. IsSendError error) }
 {
-    let mut clerk = clerk;
     let replies = ReplyLines::new(clerk.alloc, scenario)?;
     let mut session = Session {
         scenario,

@@ -16,13 +16,13 @@ pub tell-outcome-requires-clause-fits : goal.tell-outcome-requires-clause-fits
 tell-outcome-requires-clause-fits g c =
     let S = c.args.scenario.now in
     let books = subst (λ (B : BooksContents). AreBooksWithin 0 B) (sym c.requires.begun) (begun-within S) in
-    let blame = subst (λ (o : Option BlameContents). IsBlameIfWithin 0 o) (sym c.requires.blame) (if-within c.args.clerk.asked.whom 0 (no_blame S) (blame.begun-within S)) in
-    subst (λ (s : State). IsWithin (512 * s.spent) c.args.clerk) (sym c.requires.start) (record { books = books; blame = blame })
+    let blame = subst (λ (o : Option BlameContents). IsBlameIfWithin 0 o) (sym c.requires.blame) (if-within c.args.clerk.now.asked.whom 0 (no_blame S) (blame.begun-within S)) in
+    subst (λ (s : State). IsWithin (512 * s.spent) c.args.clerk.now) (sym c.requires.start) (record { books = books; blame = blame })
 
 pub returns-clause-writes : goal.returns-clause-writes
 returns-clause-writes g c =
     let S = c.args.scenario.now in
-    let k = c.args.clerk in
+    let k = c.args.clerk.now in
     let instrs = expand_lines c.args.lines.now in
     writes_more (λ output. output ≡ clerk_told k S (g.M.Reads.state c.args.machine) instrs) (λ output. output ≡ times_text k.asked S instrs)
     (g.W.Write.contents c.args.writer.now) _ _ c.tell-outcome.result
