@@ -11,6 +11,7 @@ mod offers;
 mod places;
 mod reason_names;
 mod verdicts;
+mod writing;
 
 pub use looks::Look;
 pub use reason_names::{fault_name, why_name};

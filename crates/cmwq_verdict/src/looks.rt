@@ -6,6 +6,7 @@ ghost use Rattle.std.specs.Prelude.{◌≡◌, ◌++◌, ◌∷◌, OnOk, codes,
 
 use crate::places::{line_start, rest_from};
 use crate::reason_names::why_name;
+use crate::writing::{push_between, push_bytes};
 use cmwq_fitting::TextFault;
 use cmwq_grammar::Why;
 use cmwq_scan::next_line;
@@ -27,20 +28,16 @@ pub(crate) fn push_why(told: &mut Vec<u8>, look: Look, why: Why) -> Result<(), N
     ensures { OnOk result (told.new.items ≡ told.old.items ++ why_words look why) }
 {
     match look {
-        Look::Plain | Look::Pointed => told.extend_from_slice(why_name(why).as_bytes())?,
-        Look::Terminal => push_red(told, why_name(why).as_bytes())?,
+        Look::Plain | Look::Pointed => push_bytes(told, why_name(why).as_bytes()),
+        Look::Terminal => push_red(told, why_name(why).as_bytes()),
     }
-    Ok(())
 }
 
 /// Writes the word in red.
 fn push_red(told: &mut Vec<u8>, word: &[u8]) -> Result<(), NoMemory>
     ensures { OnOk result (told.new.items ≡ told.old.items ++ (27 ∷ codes "[1;31m") ++ word.now ++ 27 ∷ codes "[0m") }
 {
-    told.extend_from_slice(b"\x1b[1;31m")?;
-    told.extend_from_slice(word)?;
-    told.extend_from_slice(b"\x1b[0m")?;
-    Ok(())
+    push_between(told, b"\x1b[1;31m", word, b"\x1b[0m")
 }
 
 /// Writes what points at a column of the fault's line.
@@ -70,12 +67,11 @@ fn push_pointed(told: &mut Vec<u8>, line: &[u8], column: usize) -> Result<(), No
     if column > 100 {
         return Ok(());
     }
-    told.extend_from_slice(b"  ")?;
+    push_bytes(told, b"  ")?;
     push_seen(told, front_of(line, 100))?;
-    told.extend_from_slice(b"\n  ")?;
+    push_bytes(told, b"\n  ")?;
     push_blanks(told, front_of(line, column.saturating_sub(1)))?;
-    told.extend_from_slice(b"^\n")?;
-    Ok(())
+    push_bytes(told, b"^\n")
 }
 
 /// Writes the bytes as they are shown.
