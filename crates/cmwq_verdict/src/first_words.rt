@@ -13,7 +13,7 @@ use cmwq_types::{Mnemonic, NoMemory, Shape, shape_of};
 use std::alloc::Global;
 
 /// The first word of a line.
-#[derive(Clone, Copy, Debug, PartialEq, Eq)]
+#[derive(Clone, Copy)]
 pub enum FirstWord {
     Cpus,
     Workers,
@@ -169,10 +169,23 @@ fn push_named(
         ≡ map spelled words.old.items ++ map spelling (filter (λ mnemonic. has_named works queues (operands_of mnemonic)) all.now)) }
 {
     for mnemonic in all {
-        let has_named = has_named(*mnemonic, works, queues);
-        push_if(words, has_named, FirstWord::Instruction(*mnemonic))?;
+        push_if_named(words, *mnemonic, works, queues)?;
     }
     Ok(())
+}
+
+/// Adds the instruction's word where there is one of what its first operand names.
+fn push_if_named(
+    words: &mut Vec<FirstWord>,
+    mnemonic: Mnemonic,
+    works: bool,
+    queues: bool,
+) -> Result<(), NoMemory>
+    ensures { OnOk result (map spelled words.new.items
+        ≡ map spelled words.old.items ++ word_if (has_named works queues (operands_of mnemonic)) (spelling mnemonic)) }
+{
+    let has_named = has_named(mnemonic, works, queues);
+    push_if(words, has_named, FirstWord::Instruction(mnemonic))
 }
 
 /// Whether there is one of what the instruction's first operand names.

@@ -10,6 +10,7 @@ mod mending;
 mod offers;
 mod places;
 mod reason_names;
+mod shown;
 mod verdicts;
 mod writing;
 

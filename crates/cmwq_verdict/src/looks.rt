@@ -1,11 +1,12 @@
 //! How a verdict looks.
 ghost use Rattle.cmwq_grammar.specs.Cutting.{lines_of};
 ghost use Rattle.cmwq_grammar.specs.Meaning.{fault_at};
-ghost use Rattle.cmwq_verdict.specs.Looks.{blank, pointed, pointer, seen, why_words};
-ghost use Rattle.std.specs.Prelude.{◌≡◌, ◌++◌, ◌∷◌, OnOk, codes, map, take};
+ghost use Rattle.cmwq_verdict.specs.Looks.{pointed, pointer, why_words};
+ghost use Rattle.std.specs.Prelude.{◌≡◌, ◌++◌, ◌∷◌, OnOk, codes, take};
 
 use crate::places::{line_start, rest_from};
 use crate::reason_names::why_name;
+use crate::shown::{Shown, push_shown_as};
 use crate::writing::{push_between, push_bytes};
 use cmwq_fitting::TextFault;
 use cmwq_grammar::Why;
@@ -68,48 +69,11 @@ fn push_pointed(told: &mut Vec<u8>, line: &[u8], column: usize) -> Result<(), No
         return Ok(());
     }
     push_bytes(told, b"  ")?;
-    push_seen(told, front_of(line, 100))?;
+    push_shown_as(told, Shown::Seen, front_of(line, 100))?;
     push_bytes(told, b"\n  ")?;
-    push_blanks(told, front_of(line, column.saturating_sub(1)))?;
+    let front = front_of(line, column.saturating_sub(1));
+    push_shown_as(told, Shown::Blank, front)?;
     push_bytes(told, b"^\n")
-}
-
-/// Writes the bytes as they are shown.
-fn push_seen(told: &mut Vec<u8>, bytes: &[u8]) -> Result<(), NoMemory>
-    ensures { OnOk result (told.new.items ≡ told.old.items ++ map seen bytes.now) }
-{
-    for byte in bytes {
-        told.push(seen(*byte))?;
-    }
-    Ok(())
-}
-
-/// Writes blanks as wide as these bytes.
-fn push_blanks(told: &mut Vec<u8>, bytes: &[u8]) -> Result<(), NoMemory>
-    ensures { OnOk result (told.new.items ≡ told.old.items ++ map blank bytes.now) }
-{
-    for byte in bytes {
-        told.push(blank(*byte))?;
-    }
-    Ok(())
-}
-
-/// The byte, or `?` where it can't be seen; a tab stays one, and a carriage return is a blank.
-fn seen(byte: u8) -> u8
-    ensures { result ≡ seen byte }
-{
-    match byte {
-        b'\t' | 32..=126 => byte,
-        b'\r' => b' ',
-        _ => b'?',
-    }
-}
-
-/// A blank as wide as the byte.
-fn blank(byte: u8) -> u8
-    ensures { result ≡ blank byte }
-{
-    if byte == b'\t' { byte } else { b' ' }
 }
 
 /// The bytes, up to so many.

@@ -1,7 +1,7 @@
 //! What is said of a text.
 ghost use Rattle.cmwq_grammar.specs.FaultLaw.{IsFault};
 ghost use Rattle.cmwq_grammar.specs.Meaning.{fault_at};
-ghost use Rattle.cmwq_verdict.specs.Verdicts.{IsExplained, IsVerdict, ok_line, unread_line, shown, subject_of, verdict_lines, visible};
+ghost use Rattle.cmwq_verdict.specs.Verdicts.{IsExplained, IsFoundOut, IsVerdict, ok_line, unread_line, shown, subject_of, verdict_lines};
 ghost use Rattle.cmwq_verdict.specs.Hints.{hint_lines};
 ghost use Rattle.cmwq_verdict.specs.Looks.{pointer, why_words};
 ghost use Rattle.cmwq_verdict.specs.WordPlaces.{IsNext, column_of_place};
@@ -13,6 +13,7 @@ use crate::hints::push_hints;
 use crate::looks::{Look, front_of, push_pointer, push_why};
 use crate::mending::push_mending;
 use crate::places::FaultPlace;
+use crate::shown::{Shown, push_shown_as};
 use crate::writing::push_bytes;
 use cmwq_asm::{AsmError, assemble};
 use cmwq_fitting::TextFault;
@@ -100,8 +101,22 @@ fn fault_explained(
     ensures { IfOk result (λ told. IsExplained look file.now text.now (Some told.items)) }
 {
     let found = found_of(alloc, text, fault)?;
-    let mut told = verdict_lines(alloc, look, file, text, &found)?;
-    push_mending(alloc, &mut told, text, &found)?;
+    explained_lines(alloc, look, file, text, &found)
+}
+
+/// The lines that tell the text's fault, which was found out, and what mends it.
+fn explained_lines(
+    alloc: Global,
+    look: Look,
+    file: &str,
+    text: &[u8],
+    found: &Finding<'_>,
+) -> Result<Vec<u8>, NoMemory>
+    requires { IsFoundOut text.now (fault_at found.now.fault.line found.now.fault.why) found.now.place found.now.next found.now.offer }
+    ensures { IfOk result (λ told. IsExplained look file.now text.now (Some told.items)) }
+{
+    let mut told = verdict_lines(alloc, look, file, text, found)?;
+    push_mending(alloc, &mut told, text, found)?;
     Ok(told)
 }
 
@@ -202,16 +217,5 @@ fn push_subject(told: &mut Vec<u8>, place: FaultPlace<'_>) -> Result<(), NoMemor
 fn push_shown(told: &mut Vec<u8>, word: &[u8]) -> Result<(), NoMemory>
     ensures { OnOk result (told.new.items ≡ told.old.items ++ shown word.now) }
 {
-    let front = front_of(word, 64);
-    for byte in front {
-        told.push(visible(*byte))?;
-    }
-    Ok(())
-}
-
-/// The byte, or `?` where it isn't a visible character of ASCII.
-fn visible(byte: u8) -> u8
-    ensures { result ≡ visible byte }
-{
-    if byte.is_ascii_graphic() { byte } else { b'?' }
+    push_shown_as(told, Shown::Visible, front_of(word, 64))
 }
