@@ -151,7 +151,7 @@ fn push_verdict(
         ++ (pointer look text.now (fault_at found.now.fault.line found.now.fault.why) (column_of_place found.now.place)
         ++ hint_lines text.now (fault_at found.now.fault.line found.now.fault.why) found.now.place found.now.next found.now.offer))) }
 {
-    push_fault(told, look, found.fault.why, found.place)?;
+    push_subject_and_why(told, look, found.fault.why, found.place)?;
     let column = column_of_place(found.place);
     push_pointer(told, look, text, found.fault, column)?;
     push_hints(alloc, told, text, found)
@@ -186,7 +186,7 @@ fn place_text(alloc: Global, file: &str, line: u32, column: usize) -> Result<Vec
 }
 
 /// Writes what stands at the place, and why that is a fault.
-fn push_fault(
+fn push_subject_and_why(
     told: &mut Vec<u8>,
     look: Look,
     why: Why,
