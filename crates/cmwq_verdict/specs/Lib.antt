@@ -4,5 +4,6 @@ pub mod Looks
 pub mod Mending
 pub mod Names
 pub mod OfferLines
+pub mod Shown
 pub mod Verdicts
 pub mod WordPlaces

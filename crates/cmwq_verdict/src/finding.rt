@@ -42,8 +42,7 @@ pub(crate) fn found_of<'t>(
     fault: TextFault,
 ) -> Result<Finding<'t>, NoMemory>
     requires { IsFault text.now (fault_at fault.line fault.why) }
-    ensures found { IfOk result (λ found. IsFoundOut text.now (fault_at fault.line fault.why) found.place found.next found.offer) }
-    ensures fault { IfOk result (λ found. found.fault ≡ fault) }
+    ensures { IfOk result (λ found. IsFoundOut text.now (fault_at found.fault.line found.fault.why) found.place found.next found.offer) }
 {
     let place = place_of_fault(alloc, text, fault)?;
     let next = next_of(alloc, text, fault)?;
@@ -85,9 +84,23 @@ fn offer_of<'t>(
     if !is_behind_first(alloc, next, line_before(text, fault, column))? {
         return Ok(None);
     }
+    Ok(Some(offer_behind(alloc, text, fault, column)?))
+}
+
+/// What may stand at a column of the fault's line.
+fn offer_behind<'t>(
+    alloc: Global,
+    text: &'t [u8],
+    fault: TextFault,
+    column: usize,
+) -> Result<Offer<'t>, NoMemory>
+    requires { fault.line ≢ 0 }
+    ensures { IfOk result (λ offer. IsOfferAt fault.line (text_before text.now (fault_at fault.line fault.why) column)
+        (known_words (lines_before text.now (fault_at fault.line fault.why))) offer) }
+{
     let known = known_words(alloc, lines_before(text, fault))?;
     let gap = Gap::new(alloc, text_before(text, fault, column), fault.line)?;
-    Ok(Some(offer_at(alloc, &gap, &known)?))
+    offer_at(alloc, &gap, &known)
 }
 
 /// Whether the line's first words, which are these bytes, begin with one with which a line may begin.

@@ -1,5 +1,6 @@
 //! The words that lines begin with.
 ghost use Rattle.cmwq_grammar.specs.Instructions.{operands_of};
+ghost use Rattle.cmwq_grammar.specs.declared.next.Next.TheVariants as Next;
 ghost use Rattle.cmwq_grammar.specs.Offers.{has_named, operation_words, words_of_next};
 ghost use Rattle.cmwq_types.specs.Listing.{word_if};
 ghost use Rattle.cmwq_types.specs.Mnemonics.{spelling};
@@ -12,7 +13,7 @@ use cmwq_types::{Mnemonic, NoMemory, Shape, shape_of};
 use std::alloc::Global;
 
 /// The first word of a line.
-#[derive(Clone, Copy, Debug, PartialEq, Eq)]
+#[derive(Clone, Copy)]
 pub enum FirstWord {
     Cpus,
     Workers,
@@ -77,21 +78,11 @@ fn push_first_words(words: &mut Vec<FirstWord>, next: Next) -> Result<(), NoMemo
         Next::Workers => push_if(words, true, FirstWord::Workers),
         Next::Steps => push_if(words, true, FirstWord::Steps),
         Next::Flushes => push_if(words, true, FirstWord::Flushes),
-        Next::Declaration { room, queues } => {
-            push_if(words, room, FirstWord::Instruction(Mnemonic::Queue))?;
-            push_if(words, queues, FirstWord::Work)?;
-            push_if(words, true, FirstWord::Actor)
-        }
-        Next::Work { room } => {
-            push_if(words, room, FirstWord::Work)?;
-            push_if(words, true, FirstWord::Body)
-        }
+        Next::Declaration { room, queues } => push_declarations(words, room, queues),
+        Next::Work { room } => push_work_or_body(words, room),
         Next::Body => push_if(words, true, FirstWord::Body),
         Next::Actor => push_if(words, true, FirstWord::Actor),
-        Next::Operation { room } => {
-            push_operation_words(words, room)?;
-            push_if(words, true, FirstWord::Finish)
-        }
+        Next::Operation { room } => push_operations(words, room),
         Next::Instruction {
             room,
             works,
@@ -99,6 +90,31 @@ fn push_first_words(words: &mut Vec<FirstWord>, next: Next) -> Result<(), NoMemo
             actor,
         } => push_actor_words(words, Mnemonic::all(), room, works, queues, actor),
     }
+}
+
+/// Adds the words of a queue, of a work and of an actor, where there is room for one or a queue for it.
+fn push_declarations(words: &mut Vec<FirstWord>, room: bool, queues: bool) -> Result<(), NoMemory>
+    ensures { OnOk result (map spelled words.new.items ≡ map spelled words.old.items ++ words_of_next (Next.Declaration room queues)) }
+{
+    push_if(words, room, FirstWord::Instruction(Mnemonic::Queue))?;
+    push_if(words, queues, FirstWord::Work)?;
+    push_if(words, true, FirstWord::Actor)
+}
+
+/// Adds the words of a work, where there is room for one, and of a body.
+fn push_work_or_body(words: &mut Vec<FirstWord>, room: bool) -> Result<(), NoMemory>
+    ensures { OnOk result (map spelled words.new.items ≡ map spelled words.old.items ++ words_of_next (Next.Work room)) }
+{
+    push_if(words, room, FirstWord::Work)?;
+    push_if(words, true, FirstWord::Body)
+}
+
+/// Adds the words of operations, where there is room for one, and `finish`.
+fn push_operations(words: &mut Vec<FirstWord>, room: bool) -> Result<(), NoMemory>
+    ensures { OnOk result (map spelled words.new.items ≡ map spelled words.old.items ++ words_of_next (Next.Operation room)) }
+{
+    push_operation_words(words, room)?;
+    push_if(words, true, FirstWord::Finish)
 }
 
 /// Adds the words of operations but for `finish`, where there is room for one.
@@ -153,10 +169,23 @@ fn push_named(
         ≡ map spelled words.old.items ++ map spelling (filter (λ mnemonic. has_named works queues (operands_of mnemonic)) all.now)) }
 {
     for mnemonic in all {
-        let has_named = has_named(*mnemonic, works, queues);
-        push_if(words, has_named, FirstWord::Instruction(*mnemonic))?;
+        push_if_named(words, *mnemonic, works, queues)?;
     }
     Ok(())
+}
+
+/// Adds the instruction's word where there is one of what its first operand names.
+fn push_if_named(
+    words: &mut Vec<FirstWord>,
+    mnemonic: Mnemonic,
+    works: bool,
+    queues: bool,
+) -> Result<(), NoMemory>
+    ensures { OnOk result (map spelled words.new.items
+        ≡ map spelled words.old.items ++ word_if (has_named works queues (operands_of mnemonic)) (spelling mnemonic)) }
+{
+    let has_named = has_named(mnemonic, works, queues);
+    push_if(words, has_named, FirstWord::Instruction(mnemonic))
 }
 
 /// Whether there is one of what the instruction's first operand names.

@@ -3,7 +3,7 @@ ghost use Rattle.cmwq_fitting.specs.Meant.{meant_among, meant_at};
 ghost use Rattle.cmwq_grammar.specs.Cutting.{words_of};
 ghost use Rattle.cmwq_grammar.specs.Meaning.{fault_at};
 ghost use Rattle.cmwq_grammar.specs.Offers.{words_of_next};
-ghost use Rattle.cmwq_verdict.specs.Hints.{line_end, end_text, hint_lines, is_misspelt, limit_words, limits_text, things_list, meant_first, meant_line, meant_of_place, more_text, names_offered, place_line, stand_line, things_offered, words_told};
+ghost use Rattle.cmwq_verdict.specs.Hints.{line_end, end_text, hint_lines, is_misspelt, limit_words, limits_text, things_list, meant_first, meant_if, meant_line, meant_of_place, more_text, names_offered, place_line, stand_line, things_offered, words_told};
 ghost use Rattle.cmwq_verdict.specs.OfferLines.{spelled};
 ghost use Rattle.cmwq_verdict.specs.WordPlaces.{IsNext};
 ghost use Rattle.std.specs.List.{flat_map};
@@ -12,6 +12,7 @@ ghost use Rattle.std.specs.Prelude.{◌≡◌, ◌++◌, ◌≢◌, IfOk, OnOk, 
 use crate::finding::{Finding, column_of_place, line_before, text_before, word_of_place};
 use crate::first_words::{FirstWord, words_of};
 use crate::offers::push_offered;
+use crate::writing::{push_between, push_bytes};
 use cmwq_fitting::{Gap, Limits, Offer, meant_among, meant_at, nearest_first};
 use cmwq_grammar::{Next, Why};
 use cmwq_scan::{next_word, worded_part};
@@ -33,12 +34,28 @@ pub(crate) fn push_hints(
         return Ok(());
     };
     let words = words_of(alloc, next)?;
-    push_place_line(alloc, told, &words, found)?;
-    if is_misspelt(found.fault.why) {
-        let meant = meant_of_place(alloc, text, &words, found)?;
-        push_meant(told, meant)?;
+    push_hints_among(alloc, told, text, &words, found)
+}
+
+/// Writes what may stand at the place, and what is meant there, these being the words that a line may begin with.
+fn push_hints_among(
+    alloc: Global,
+    told: &mut Vec<u8>,
+    text: &[u8],
+    words: &[FirstWord],
+    found: &Finding<'_>,
+) -> Result<(), NoMemory>
+    requires { found.now.fault.line ≢ 0 }
+    ensures { OnOk result (told.new.items ≡ told.old.items ++ (place_line found.now.place (map spelled words.now) found.now.offer
+        ++ meant_if text.now (fault_at found.now.fault.line found.now.fault.why) found.now.place (map spelled words.now)
+        (is_misspelt found.now.fault.why) found.now.offer)) }
+{
+    push_place_line(alloc, told, words, found)?;
+    if !is_misspelt(found.fault.why) {
+        return Ok(());
     }
-    Ok(())
+    let meant = meant_of_place(alloc, text, words, found)?;
+    push_meant(told, meant)
 }
 
 /// Writes what may stand at the place: how a line may begin there, these being the words, or what may stand behind its first word.
@@ -71,11 +88,13 @@ fn push_standing(
     if list.is_empty() {
         return push_end(told, words, may_end);
     }
-    told.extend_from_slice(b"  here may stand: ")?;
-    told.extend_from_slice(behind_two(list))?;
-    told.extend_from_slice(end_text(may_end))?;
-    told.push(b'\n')?;
-    Ok(())
+    push_between(
+        told,
+        b"  here may stand: ",
+        behind_two(list),
+        end_text(may_end),
+    )?;
+    push_bytes(told, b"\n")
 }
 
 /// Writes that the line should end, or else how one may begin.
@@ -83,10 +102,10 @@ fn push_end(told: &mut Vec<u8>, words: &[FirstWord], may_end: bool) -> Result<()
     ensures { OnOk result (told.new.items ≡ told.old.items ++ line_end (map spelled words.now) may_end) }
 {
     if may_end {
-        told.extend_from_slice(b"  the line should end here\n")?;
-        return Ok(());
+        push_bytes(told, b"  the line should end here\n")
+    } else {
+        push_offered(told, words)
     }
-    push_offered(told, words)
 }
 
 /// That the line may end.
@@ -146,9 +165,7 @@ fn push_told_words(alloc: Global, list: &mut Vec<u8>, words: &[&[u8]]) -> Result
     let (front, others) = words.split_at(8);
     push_listed(list, front)?;
     let more = more_text(alloc, others.len())?;
-    list.extend_from_slice(b", ")?;
-    list.extend_from_slice(&more)?;
-    Ok(())
+    push_between(list, b", ", &more, b"")
 }
 
 /// The words that tell how many more there are.
@@ -163,8 +180,7 @@ fn push_listed(list: &mut Vec<u8>, words: &[&[u8]]) -> Result<(), NoMemory>
     ensures { OnOk result (list.new.items ≡ list.old.items ++ things_list (map (λ word. word.now) words.now)) }
 {
     for word in words {
-        list.extend_from_slice(b", ")?;
-        list.extend_from_slice(*word)?;
+        push_between(list, b", ", *word, b"")?;
     }
     Ok(())
 }
@@ -177,9 +193,7 @@ fn push_limits(alloc: Global, list: &mut Vec<u8>, limits: Option<Limits>) -> Res
         return Ok(());
     };
     let numbers = limits_text(alloc, low, high)?;
-    list.extend_from_slice(b", ")?;
-    list.extend_from_slice(&numbers)?;
-    Ok(())
+    push_between(list, b", ", &numbers, b"")
 }
 
 /// The words that tell these limits.
@@ -248,12 +262,10 @@ fn spellings(alloc: Global, words: &[FirstWord]) -> Result<Vec<&'static [u8]>, N
 fn push_meant(told: &mut Vec<u8>, meant: Option<Vec<u8>>) -> Result<(), NoMemory>
     ensures { OnOk result (told.new.items ≡ told.old.items ++ meant_line (option_map (λ meant. meant.items) meant)) }
 {
-    if let Some(word) = meant {
-        told.extend_from_slice(b"  is ")?;
-        told.extend_from_slice(&word)?;
-        told.extend_from_slice(b" meant?\n")?;
+    match meant {
+        Some(word) => push_between(told, b"  is ", &word, b" meant?\n"),
+        None => Ok(()),
     }
-    Ok(())
 }
 
 /// Whether the reason is that of a word that isn't the right one.

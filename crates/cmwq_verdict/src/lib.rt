@@ -10,7 +10,9 @@ mod mending;
 mod offers;
 mod places;
 mod reason_names;
+mod shown;
 mod verdicts;
+mod writing;
 
 pub use looks::Look;
 pub use reason_names::{fault_name, why_name};

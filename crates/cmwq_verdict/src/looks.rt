@@ -1,11 +1,13 @@
 //! How a verdict looks.
 ghost use Rattle.cmwq_grammar.specs.Cutting.{lines_of};
 ghost use Rattle.cmwq_grammar.specs.Meaning.{fault_at};
-ghost use Rattle.cmwq_verdict.specs.Looks.{blank, pointed, pointer, seen, why_words};
-ghost use Rattle.std.specs.Prelude.{◌≡◌, ◌++◌, ◌∷◌, OnOk, codes, map, take};
+ghost use Rattle.cmwq_verdict.specs.Looks.{pointed, pointer, why_words};
+ghost use Rattle.std.specs.Prelude.{◌≡◌, ◌++◌, ◌∷◌, OnOk, codes, take};
 
 use crate::places::{line_start, rest_from};
 use crate::reason_names::why_name;
+use crate::shown::{Shown, push_shown_as};
+use crate::writing::{push_between, push_bytes};
 use cmwq_fitting::TextFault;
 use cmwq_grammar::Why;
 use cmwq_scan::next_line;
@@ -27,20 +29,16 @@ pub(crate) fn push_why(told: &mut Vec<u8>, look: Look, why: Why) -> Result<(), N
     ensures { OnOk result (told.new.items ≡ told.old.items ++ why_words look why) }
 {
     match look {
-        Look::Plain | Look::Pointed => told.extend_from_slice(why_name(why).as_bytes())?,
-        Look::Terminal => push_red(told, why_name(why).as_bytes())?,
+        Look::Plain | Look::Pointed => push_bytes(told, why_name(why).as_bytes()),
+        Look::Terminal => push_red(told, why_name(why).as_bytes()),
     }
-    Ok(())
 }
 
 /// Writes the word in red.
 fn push_red(told: &mut Vec<u8>, word: &[u8]) -> Result<(), NoMemory>
     ensures { OnOk result (told.new.items ≡ told.old.items ++ (27 ∷ codes "[1;31m") ++ word.now ++ 27 ∷ codes "[0m") }
 {
-    told.extend_from_slice(b"\x1b[1;31m")?;
-    told.extend_from_slice(word)?;
-    told.extend_from_slice(b"\x1b[0m")?;
-    Ok(())
+    push_between(told, b"\x1b[1;31m", word, b"\x1b[0m")
 }
 
 /// Writes what points at a column of the fault's line.
@@ -70,50 +68,12 @@ fn push_pointed(told: &mut Vec<u8>, line: &[u8], column: usize) -> Result<(), No
     if column > 100 {
         return Ok(());
     }
-    told.extend_from_slice(b"  ")?;
-    push_seen(told, front_of(line, 100))?;
-    told.extend_from_slice(b"\n  ")?;
-    push_blanks(told, front_of(line, column.saturating_sub(1)))?;
-    told.extend_from_slice(b"^\n")?;
-    Ok(())
-}
-
-/// Writes the bytes as they are shown.
-fn push_seen(told: &mut Vec<u8>, bytes: &[u8]) -> Result<(), NoMemory>
-    ensures { OnOk result (told.new.items ≡ told.old.items ++ map seen bytes.now) }
-{
-    for byte in bytes {
-        told.push(seen(*byte))?;
-    }
-    Ok(())
-}
-
-/// Writes blanks as wide as these bytes.
-fn push_blanks(told: &mut Vec<u8>, bytes: &[u8]) -> Result<(), NoMemory>
-    ensures { OnOk result (told.new.items ≡ told.old.items ++ map blank bytes.now) }
-{
-    for byte in bytes {
-        told.push(blank(*byte))?;
-    }
-    Ok(())
-}
-
-/// The byte, or `?` where it can't be seen; a tab stays one, and a carriage return is a blank.
-fn seen(byte: u8) -> u8
-    ensures { result ≡ seen byte }
-{
-    match byte {
-        b'\t' | 32..=126 => byte,
-        b'\r' => b' ',
-        _ => b'?',
-    }
-}
-
-/// A blank as wide as the byte.
-fn blank(byte: u8) -> u8
-    ensures { result ≡ blank byte }
-{
-    if byte == b'\t' { byte } else { b' ' }
+    push_bytes(told, b"  ")?;
+    push_shown_as(told, Shown::Seen, front_of(line, 100))?;
+    push_bytes(told, b"\n  ")?;
+    let front = front_of(line, column.saturating_sub(1));
+    push_shown_as(told, Shown::Blank, front)?;
+    push_bytes(told, b"^\n")
 }
 
 /// The bytes, up to so many.

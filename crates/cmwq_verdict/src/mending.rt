@@ -8,6 +8,7 @@ ghost use Rattle.std.specs.Prelude.{◌≡◌, ◌++◌, IfOk, OnOk, option_map}
 
 use crate::finding::{Finding, lines_before, word_of_place};
 use crate::hints::limits_text;
+use crate::writing::push_between;
 use cmwq_fitting::{Limits, Offer, last_body};
 use cmwq_grammar::{Next, Why};
 use cmwq_scan::is_word;
@@ -142,10 +143,12 @@ fn push_range(alloc: Global, told: &mut Vec<u8>, limits: Option<Limits>) -> Resu
         return push_sentence(told, b"the number is out of its limits");
     };
     let numbers = limits_text(alloc, low, high)?;
-    told.extend_from_slice(b"  the number is out of its limits: here stands ")?;
-    told.extend_from_slice(&numbers)?;
-    told.push(b'\n')?;
-    Ok(())
+    push_between(
+        told,
+        b"  the number is out of its limits: here stands ",
+        &numbers,
+        b"\n",
+    )
 }
 
 /// Writes what a queue's `max` takes, or that of an ordered queue.
@@ -172,10 +175,12 @@ fn push_order(told: &mut Vec<u8>, body: Option<&[u8]>) -> Result<(), NoMemory>
             b"lines stand in this order: cpus, workers, steps, flushes, queues, works, bodies in the order of their works, actors",
         );
     };
-    told.extend_from_slice(b"  the body of ")?;
-    told.extend_from_slice(work)?;
-    told.extend_from_slice(b" is open: its operations stand here, and finish ends it\n")?;
-    Ok(())
+    push_between(
+        told,
+        b"  the body of ",
+        work,
+        b" is open: its operations stand here, and finish ends it\n",
+    )
 }
 
 /// Writes what a body lacks, this open one or any.
@@ -185,18 +190,17 @@ fn push_body_end(told: &mut Vec<u8>, body: Option<&[u8]>) -> Result<(), NoMemory
     let Some(work) = body else {
         return push_sentence(told, b"a body ends with its one finish");
     };
-    told.extend_from_slice(b"  the body of ")?;
-    told.extend_from_slice(work)?;
-    told.extend_from_slice(b" lacks the finish that ends it\n")?;
-    Ok(())
+    push_between(
+        told,
+        b"  the body of ",
+        work,
+        b" lacks the finish that ends it\n",
+    )
 }
 
 /// Writes the line of these words.
 fn push_sentence(told: &mut Vec<u8>, words: &[u8]) -> Result<(), NoMemory>
     ensures { OnOk result (told.new.items ≡ told.old.items ++ sentence words.now) }
 {
-    told.extend_from_slice(b"  ")?;
-    told.extend_from_slice(words)?;
-    told.push(b'\n')?;
-    Ok(())
+    push_between(told, b"  ", words, b"\n")
 }

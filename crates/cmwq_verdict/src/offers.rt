@@ -4,10 +4,11 @@ ghost use Rattle.cmwq_grammar.specs.Meaning.{fault_at};
 ghost use Rattle.cmwq_grammar.specs.declared.why.Why.{Why};
 ghost use Rattle.cmwq_verdict.specs.OfferLines.{IsNextAt, offer_line, spelled};
 ghost use Rattle.std.specs.List.{flat_map};
-ghost use Rattle.std.specs.Prelude.{◌≡◌, ◌≢◌, ◌++◌, ℕ, List, IfOk, OnOk, codes, map};
+ghost use Rattle.std.specs.Prelude.{◌≡◌, ◌≢◌, ◌++◌, ◌∷◌, ℕ, List, IfOk, OnOk, codes, map};
 
 use crate::first_words::FirstWord;
 use crate::places::line_start;
+use crate::writing::{push_between, push_bytes};
 use cmwq_asm::{AsmError, next_after};
 use cmwq_grammar::Next;
 use cmwq_types::NoMemory;
@@ -34,15 +35,22 @@ pub(crate) fn push_offered(told: &mut Vec<u8>, words: &[FirstWord]) -> Result<()
     ensures { OnOk result (told.new.items ≡ told.old.items ++ offer_line (map spelled words.now)) }
 {
     match words {
-        [] => told.extend_from_slice(b"  no line may stand here\n")?,
-        [word, others @ ..] => {
-            told.extend_from_slice(b"  a line here may begin with: ")?;
-            told.extend_from_slice(word.as_bytes())?;
-            push_other_words(told, others)?;
-            told.push(b'\n')?;
-        }
+        [] => push_bytes(told, b"  no line may stand here\n"),
+        [word, others @ ..] => push_word_and_others(told, word.as_bytes(), others),
     }
-    Ok(())
+}
+
+/// Writes the line that offers the word and these others.
+fn push_word_and_others(
+    told: &mut Vec<u8>,
+    word: &[u8],
+    others: &[FirstWord],
+) -> Result<(), NoMemory>
+    ensures { OnOk result (told.new.items ≡ told.old.items ++ offer_line (word.now ∷ map spelled others.now)) }
+{
+    push_between(told, b"  a line here may begin with: ", word, b"")?;
+    push_other_words(told, others)?;
+    push_bytes(told, b"\n")
 }
 
 /// Writes the words behind the first.
@@ -50,8 +58,7 @@ fn push_other_words(told: &mut Vec<u8>, others: &[FirstWord]) -> Result<(), NoMe
     ensures { OnOk result (told.new.items ≡ told.old.items ++ flat_map (λ other. codes ", " ++ other) (map spelled others.now)) }
 {
     for other in others {
-        told.extend_from_slice(b", ")?;
-        told.extend_from_slice(other.as_bytes())?;
+        push_between(told, b", ", other.as_bytes(), b"")?;
     }
     Ok(())
 }

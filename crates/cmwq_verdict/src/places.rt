@@ -15,7 +15,7 @@ use cmwq_types::NoMemory;
 use std::alloc::Global;
 
 /// Where the first fault of a text is seen. Columns are counted in bytes, from 1.
-#[derive(Clone, Copy, Debug)]
+#[derive(Clone, Copy)]
 pub enum FaultPlace<'t> {
     /// The text as a whole, which is too long.
     Text,

@@ -1,17 +1,23 @@
 //! What is said of a text.
 ghost use Rattle.cmwq_grammar.specs.FaultLaw.{IsFault};
 ghost use Rattle.cmwq_grammar.specs.Meaning.{fault_at};
-ghost use Rattle.cmwq_verdict.specs.Verdicts.{IsExplained, IsVerdict, fault_line, ok_line, unread_line, shown, subject_of, verdict_lines, visible};
-ghost use Rattle.cmwq_verdict.specs.WordPlaces.{IsNext};
-ghost use Rattle.std.specs.Prelude.{◌≡◌, ◌++◌, IfOk, OnOk, Some, option_map};
+ghost use Rattle.cmwq_verdict.specs.Verdicts.{IsExplained, IsFoundOut, IsVerdict, ok_line, unread_line, shown, subject_of, verdict_lines};
+ghost use Rattle.cmwq_verdict.specs.Hints.{hint_lines};
+ghost use Rattle.cmwq_verdict.specs.Looks.{pointer, why_words};
+ghost use Rattle.cmwq_verdict.specs.WordPlaces.{IsNext, column_of_place};
+ghost use Rattle.std.specs.Fmt.{decimal};
+ghost use Rattle.std.specs.Prelude.{◌≡◌, ◌++◌, ◌∷◌, [], IfOk, OnOk, Some, codes, option_map};
 
 use crate::finding::{Finding, column_of_place, found_of};
 use crate::hints::push_hints;
 use crate::looks::{Look, front_of, push_pointer, push_why};
 use crate::mending::push_mending;
 use crate::places::FaultPlace;
+use crate::shown::{Shown, push_shown_as};
+use crate::writing::push_bytes;
 use cmwq_asm::{AsmError, assemble};
 use cmwq_fitting::TextFault;
+use cmwq_grammar::Why;
 use cmwq_types::NoMemory;
 use std::alloc::Global;
 
@@ -95,8 +101,22 @@ fn fault_explained(
     ensures { IfOk result (λ told. IsExplained look file.now text.now (Some told.items)) }
 {
     let found = found_of(alloc, text, fault)?;
-    let mut told = verdict_lines(alloc, look, file, text, &found)?;
-    push_mending(alloc, &mut told, text, &found)?;
+    explained_lines(alloc, look, file, text, &found)
+}
+
+/// The lines that tell the text's fault, which was found out, and what mends it.
+fn explained_lines(
+    alloc: Global,
+    look: Look,
+    file: &str,
+    text: &[u8],
+    found: &Finding<'_>,
+) -> Result<Vec<u8>, NoMemory>
+    requires { IsFoundOut text.now (fault_at found.now.fault.line found.now.fault.why) found.now.place found.now.next found.now.offer }
+    ensures { IfOk result (λ told. IsExplained look file.now text.now (Some told.items)) }
+{
+    let mut told = verdict_lines(alloc, look, file, text, found)?;
+    push_mending(alloc, &mut told, text, found)?;
     Ok(told)
 }
 
@@ -112,50 +132,72 @@ fn verdict_lines(
     ensures { IfOk result (λ told. told.items
         ≡ verdict_lines look file.now text.now (fault_at found.now.fault.line found.now.fault.why) found.now.place found.now.next found.now.offer) }
 {
-    let mut told = fault_and_place(alloc, look, file, found.fault, found.place)?;
-    push_pointer(
-        &mut told,
-        look,
-        text,
-        found.fault,
-        column_of_place(found.place),
-    )?;
-    push_hints(alloc, &mut told, text, found)?;
+    let column = column_of_place(found.place);
+    let mut told = place_text(alloc, file, found.fault.line, column)?;
+    push_verdict(alloc, &mut told, look, text, found)?;
     Ok(told)
+}
+
+/// Writes what stands behind the place in the line that tells the text's fault, and the lines behind that one.
+fn push_verdict(
+    alloc: Global,
+    told: &mut Vec<u8>,
+    look: Look,
+    text: &[u8],
+    found: &Finding<'_>,
+) -> Result<(), NoMemory>
+    requires { IsNext text.now (fault_at found.now.fault.line found.now.fault.why) found.now.next }
+    ensures { OnOk result (told.new.items ≡ told.old.items ++ (subject_of found.now.place ++ (codes ": " ++ (why_words look found.now.fault.why ++ 10 ∷ []))
+        ++ (pointer look text.now (fault_at found.now.fault.line found.now.fault.why) (column_of_place found.now.place)
+        ++ hint_lines text.now (fault_at found.now.fault.line found.now.fault.why) found.now.place found.now.next found.now.offer))) }
+{
+    push_subject_and_why(told, look, found.fault.why, found.place)?;
+    let column = column_of_place(found.place);
+    push_pointer(told, look, text, found.fault, column)?;
+    push_hints(alloc, told, text, found)
 }
 
 /// `FILE: ok`, which is said of a good file. It fails only for want of memory.
 pub fn ok_line(alloc: Global, file: &str) -> Result<Vec<u8>, NoMemory>
     ensures { IfOk result (λ line. line.items ≡ ok_line file.now) }
 {
-    Ok(format!(in alloc; "{file}: ok\n")?.into_bytes())
+    file_line(alloc, file, "ok")
 }
 
 /// `FILE: read`, which is said of a file that can't be read. It fails only for want of memory.
 pub fn unread_line(alloc: Global, file: &str) -> Result<Vec<u8>, NoMemory>
     ensures { IfOk result (λ line. line.items ≡ unread_line file.now) }
 {
-    Ok(format!(in alloc; "{file}: read\n")?.into_bytes())
+    file_line(alloc, file, "read")
 }
 
-/// The line that tells a fault, and where it is seen.
-fn fault_and_place(
-    alloc: Global,
-    look: Look,
-    file: &str,
-    fault: TextFault,
-    place: FaultPlace<'_>,
-) -> Result<Vec<u8>, NoMemory>
-    ensures { IfOk result (λ told. told.items ≡ fault_line look file.now (fault_at fault.line fault.why) place.entry) }
+/// `FILE: WORD`.
+fn file_line(alloc: Global, file: &str, word: &str) -> Result<Vec<u8>, NoMemory>
+    ensures { IfOk result (λ line. line.items ≡ file.now ++ (codes ": " ++ (word.now ++ 10 ∷ []))) }
 {
-    let TextFault { line, why } = fault;
-    let column = column_of_place(place);
-    let mut told = format!(in alloc; "{file}:{line}:{column}: ")?.into_bytes();
-    push_subject(&mut told, place)?;
-    told.extend_from_slice(b": ")?;
-    push_why(&mut told, look, why)?;
-    told.push(b'\n')?;
-    Ok(told)
+    Ok(format!(in alloc; "{file}: {word}\n")?.into_bytes())
+}
+
+/// `FILE:LINE:COLUMN: `.
+fn place_text(alloc: Global, file: &str, line: u32, column: usize) -> Result<Vec<u8>, NoMemory>
+    ensures { IfOk result (λ told. told.items ≡ file.now ++ (codes ":" ++ (decimal line ++ (codes ":" ++ (decimal column ++ codes ": "))))) }
+{
+    Ok(format!(in alloc; "{file}:{line}:{column}: ")?.into_bytes())
+}
+
+/// Writes what stands at the place, and why that is a fault.
+fn push_subject_and_why(
+    told: &mut Vec<u8>,
+    look: Look,
+    why: Why,
+    place: FaultPlace<'_>,
+) -> Result<(), NoMemory>
+    ensures { OnOk result (told.new.items ≡ told.old.items ++ (subject_of place.entry ++ (codes ": " ++ (why_words look why ++ 10 ∷ [])))) }
+{
+    push_subject(told, place)?;
+    push_bytes(told, b": ")?;
+    push_why(told, look, why)?;
+    push_bytes(told, b"\n")
 }
 
 /// Writes what stands at the place.
@@ -163,29 +205,17 @@ fn push_subject(told: &mut Vec<u8>, place: FaultPlace<'_>) -> Result<(), NoMemor
     ensures { OnOk result (told.new.items ≡ told.old.items ++ subject_of place.entry) }
 {
     match place {
-        FaultPlace::Text => told.extend_from_slice(b"text")?,
-        FaultPlace::EndOfText => told.extend_from_slice(b"end of text")?,
-        FaultPlace::Line => told.extend_from_slice(b"line")?,
-        FaultPlace::EndOfLine { .. } => told.extend_from_slice(b"end of line")?,
-        FaultPlace::Word { bytes, .. } => push_shown(told, bytes)?,
+        FaultPlace::Text => push_bytes(told, b"text"),
+        FaultPlace::EndOfText => push_bytes(told, b"end of text"),
+        FaultPlace::Line => push_bytes(told, b"line"),
+        FaultPlace::EndOfLine { .. } => push_bytes(told, b"end of line"),
+        FaultPlace::Word { bytes, .. } => push_shown(told, bytes),
     }
-    Ok(())
 }
 
 /// Writes the word as it is shown.
 fn push_shown(told: &mut Vec<u8>, word: &[u8]) -> Result<(), NoMemory>
     ensures { OnOk result (told.new.items ≡ told.old.items ++ shown word.now) }
 {
-    let front = front_of(word, 64);
-    for byte in front {
-        told.push(visible(*byte))?;
-    }
-    Ok(())
-}
-
-/// The byte, or `?` where it isn't a visible character of ASCII.
-fn visible(byte: u8) -> u8
-    ensures { result ≡ visible byte }
-{
-    if byte.is_ascii_graphic() { byte } else { b'?' }
+    push_shown_as(told, Shown::Visible, front_of(word, 64))
 }

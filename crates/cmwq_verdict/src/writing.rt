@@ -1,0 +1,27 @@
+//! Bytes that are written one behind another.
+ghost use Rattle.std.specs.Prelude.{◌≡◌, ◌++◌, OnOk};
+
+use cmwq_types::NoMemory;
+
+/// Writes the bytes.
+pub(crate) fn push_bytes(told: &mut Vec<u8>, bytes: &[u8]) -> Result<(), NoMemory>
+    ensures { OnOk result (told.new.items ≡ told.old.items ++ bytes.now) }
+{
+    told.extend_from_slice(bytes)?;
+    Ok(())
+}
+
+/// Writes these bytes, and others before them and behind them.
+pub(crate) fn push_between(
+    told: &mut Vec<u8>,
+    before: &[u8],
+    bytes: &[u8],
+    behind: &[u8],
+) -> Result<(), NoMemory>
+    ensures { OnOk result (told.new.items ≡ told.old.items ++ (before.now ++ (bytes.now ++ behind.now))) }
+{
+    told.extend_from_slice(before)?;
+    told.extend_from_slice(bytes)?;
+    told.extend_from_slice(behind)?;
+    Ok(())
+}
