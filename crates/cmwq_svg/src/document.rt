@@ -1,10 +1,10 @@
 //! The SVG text of a picture.
 ghost use Rattle.cmwq_render.specs.Gaps.{gaps};
 ghost use Rattle.cmwq_render.specs.Legend.{sampled};
-ghost use Rattle.cmwq_svg.specs.Svg.{acts_end, body, drawing, head, is_large_svg, room_again, row_count, svg_text};
+ghost use Rattle.cmwq_svg.specs.Svg.{acts_end, body, is_large_svg, room_again, row_count, svg_text};
 ghost use Rattle.cmwq_svg.specs.Layout.{full_width};
 ghost use Rattle.cmwq_render.specs.Times.{column_count};
-ghost use Rattle.std.specs.Prelude.{◌≡◌, ◌<◌, ◌^◌, ◌++◌, IfOk, string_bytes};
+ghost use Rattle.std.specs.Prelude.{◌≡◌, ◌<◌, ◌^◌, IfOk, string_bytes};
 
 use crate::frame::Frame;
 use crate::layout::{Grid, full_height, full_width, is_large, wide_step, y_of};
@@ -41,57 +41,30 @@ pub fn svg(
     };
     let cells = sampled(alloc, &picture.rows)?;
     let folded = gaps(alloc, &picture.edges)?;
-    drawing(alloc, frame, picture, hints, id, &cells, &folded)
-}
-
-/// The picture of this name in the frame, with these folded columns, and a legend of these cells. Whether its labels stand at the right
-/// too is found here.
-fn drawing(
-    alloc: Global,
-    frame: Frame<'_>,
-    picture: &Picture,
-    hints: &[Hint],
-    id: &str,
-    cells: &[Cell],
-    folded: &[Gap],
-) -> Result<Vec<u8>, NoMemory>
-    requires scale { 0 < frame.grid.scale }
-    requires edges { frame.edges.now ≡ picture.now.edges }
-    requires cells { cells.now ≡ sampled picture.now.rows }
-    requires folded { folded.now ≡ gaps picture.now.edges }
-    ensures { IfOk result (λ text. text.items ≡ drawing frame.entry.scenario.now picture.now hints.now id.now frame.entry.grid) }
-{
     let height = full_height(
         row_count(picture),
         cells.len() as u128 + folded.len() as u128,
     );
     let width = svg_width(alloc, &frame, &picture.acts)?;
     let large = is_large(width, height);
+    let mut text = Vec::new(alloc);
+    let id = id.as_bytes();
+    push_head(
+        alloc,
+        &mut text,
+        id,
+        width + room_again(frame.grid, large),
+        height,
+    )?;
     let body = body(
         alloc,
         &Frame { large, ..frame },
         picture,
         hints,
-        cells,
-        folded,
+        &cells,
+        &folded,
     )?;
-    let wide = width + room_again(frame.grid, large);
-    with_head(alloc, id.as_bytes(), wide, height, body.as_bytes())
-}
-
-/// The picture of this name and this size, with this behind its beginning.
-fn with_head(
-    alloc: Global,
-    id: &[u8],
-    width: u128,
-    height: u128,
-    body: &[u8],
-) -> Result<Vec<u8>, NoMemory>
-    ensures { IfOk result (λ text. text.items ≡ head id.now width height ++ body.now) }
-{
-    let mut text = Vec::new(alloc);
-    push_head(alloc, &mut text, id, width, height)?;
-    text.extend_from_slice(body)?;
+    text.extend_from_slice(body.as_bytes())?;
     Ok(text)
 }
 

@@ -24,34 +24,19 @@ impl Frame<'_> {
         ensures { OnOk result (string_bytes text.new ≡ string_bytes text.old ++ flat_map (gap_svg self.now.grid bottom) gaps.now) }
     {
         for gap in gaps {
-            self.push_gap(alloc, text, bottom, gap)?;
+            let title = gap.words().to_string(alloc)?;
+            let band = Rectangle {
+                class: "gap",
+                area: Area {
+                    x: self.grid.x_of(gap.column),
+                    y: 22,
+                    width: u128::from(self.grid.scale),
+                    height: bottom - 22,
+                },
+                title: title.as_str(),
+            };
+            write!(text, "{band}")?;
         }
-        Ok(())
-    }
-
-    /// Writes a band over a folded column, down to here.
-    fn push_gap(
-        &self,
-        alloc: Global,
-        text: &mut String,
-        bottom: u128,
-        gap: &Gap,
-    ) -> Result<(), NoMemory>
-        requires { 22 ≤ bottom }
-        ensures { OnOk result (string_bytes text.new ≡ string_bytes text.old ++ gap_svg self.now.grid bottom gap.now) }
-    {
-        let title = gap.words().to_string(alloc)?;
-        let band = Rectangle {
-            class: "gap",
-            area: Area {
-                x: self.grid.x_of(gap.column),
-                y: 22,
-                width: u128::from(self.grid.scale),
-                height: bottom - 22,
-            },
-            title: title.as_str(),
-        };
-        write!(text, "{band}")?;
         Ok(())
     }
 
