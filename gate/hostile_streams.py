@@ -1,6 +1,7 @@
 """Runs each command line of hostile.py's table over streams that fail: closed, full, with a reader that ends early, a folder, descriptors
 that don't block, reads and writes of one byte, and each read and each write in turn failing. The program then does exactly what it does
-over good streams, or it says `read` or `write`, in one line, with its status, and what it wrote is a front of the whole output.
+over good streams, or it says `read` or `write`, in one line, with its status, and what it wrote is a front of the whole output. Over good
+streams help, the version, usage faults and a fault's line each go out in one write.
 
     python3 gate/hostile_streams.py PROGRAM"""
 import os
@@ -29,6 +30,8 @@ ENDLESS |= {
     ("show /dev/stdin", "every.cmwq"): (1, b"", b"image: Magic\n"),
     ("debug every.cmwq", "there"): (1, b"bad command\n", b"too long\n"),
 }
+# What goes out in one write, so that nothing of other programs stands in its midst: help, the version, usage faults, a fault's line and a verdict.
+AT_ONCE = ("", "--help", "help show", "asm --help", "--version", "walk a", "run", "list a b", "why a", "explore a --stuck --before x b --before b c --before c b", "run nosuch.cmwq", "show every.cmwq", "check nosuch.cmwq")
 # What is known to be otherwise, and isn't mended: of these situations these faults.
 KNOWN = {
     # FILE is opened as descriptor 0, so its end is the end of the commands.
@@ -209,7 +212,13 @@ def stated_faults(streams, paths, endless):
     return [(situation, use, f"ends otherwise, with {outcome[:3]}") for situation, use, outcome, _ in wrong]
 
 
-def all_faults(program, uses, paths, endless):
+def parted_faults(streams, lines):
+    """What is wrong where all that these command lines say has to go out in one write."""
+    counts = {line: streams.run((line, ""))[1]["write"] for line in lines}
+    return [("good streams", (line, ""), f"says what it says in {count} writes") for line, count in counts.items() if count != 1]
+
+
+def all_faults(program, uses, paths, endless, at_once=()):
     """What is wrong, each fault with its situation and its command line."""
     faults = []
     with tempfile.TemporaryDirectory(prefix="streams-") as room:
@@ -219,16 +228,16 @@ def all_faults(program, uses, paths, endless):
             whole, counts = streams.run(use)
             found = situation_faults(streams, use, whole) + call_faults(streams, use, whole, counts)
             faults += [(situation, use, fault) for situation, fault in found]
-        return faults + stated_faults(streams, paths, endless)
+        return faults + stated_faults(streams, paths, endless) + parted_faults(streams, at_once)
 
 
 def main(program):
     uses = [*hostile.all_uses(), ("run many.cmwq", ""), ("run --tell many.cmwq", "")]
-    found = all_faults(program, uses, PATHS, ENDLESS)
+    found = all_faults(program, uses, PATHS, ENDLESS, AT_ONCE)
     faults = [f"{hostile.shown(use)}: {situation}: {fault}" for situation, use, fault in found if (situation, fault) not in KNOWN]
     faults += [f"{situation}: none {fault}, which stands among what is known" for situation, fault in KNOWN if (situation, fault) not in {(it[0], it[2]) for it in found}]
     print("".join(f"hostile streams: {fault}\n" for fault in faults), end="")
-    print(f"hostile streams: {len(uses) + len(PATHS) + len(ENDLESS)} command lines, {len(KNOWN)} known faults, {len(faults)} others")
+    print(f"hostile streams: {len(uses) + len(PATHS) + len(ENDLESS) + len(AT_ONCE)} command lines, {len(KNOWN)} known faults, {len(faults)} others")
     return 1 if faults else 0
 
 

@@ -139,6 +139,9 @@ def check_streams(room):
     stated = hostile_streams.PATHS, hostile_streams.ENDLESS
     found = hostile_streams.all_faults(built(room, UNWRITTEN="return 0"), [], *stated)
     assert len(found) == sum(map(len, stated)), "it uses what can't be used, and each input has an end"
+    for script, wanted in [("printf one", 0), ("printf one; printf two", 1), ("printf one; printf two >&2", 1), ("true", 1)]:
+        found = hostile_streams.all_faults(shell_program(room, script), [], {}, {}, ["--help"])
+        assert len(found) == wanted, (script, found)
 
 
 # It says of each text and image that it is faulty, and so passes.
