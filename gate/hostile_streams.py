@@ -1,5 +1,6 @@
 """Runs each command line of hostile.py's table over streams that fail: closed, full, with a reader that ends early, a folder, descriptors
-that don't block, reads and writes of one byte, and each read and each write in turn failing. The program then does exactly what it does
+that don't block, reads and writes of one byte, and each read and each write in turn failing, of some command lines with reads and writes of one
+byte. The program then does exactly what it does
 over good streams, or it says `read` or `write`, in one line, with its status, and what it wrote is a front of the whole output. Over good
 streams help, the version, usage faults and a fault's line each go out in one write.
 
@@ -15,15 +16,18 @@ sys.dont_write_bytecode = True
 sys.path.insert(0, os.path.dirname(os.path.realpath(__file__)))
 import hostile
 
-# More output than a pipe holds: 20,000 lines.
-MANY = hostile.FILES["long.cmwq"] + "state a * 20000\n"
+# More output than a pipe holds, 20,000 lines; and a work that is disabled 65,536 times, and then enabled.
+FILES = {
+    "many.cmwq": hostile.FILES["long.cmwq"] + "state a * 20000\n",
+    "deepest.cmwq": "cpus 1\nworkers 1\nsteps 70000\nflushes 0\nqueue q max 1\nwork a q\nbody a\nfinish\nactor t\ndisable a * 65535\ndisable a\nenable a\n",
+}
 MOST = 200
 # What can't be opened or made, besides files that aren't there.
 PATHS = {line: hostile.READ for line in ("run .", "list .", "show .", "explore . --stuck", "debug .", "asm . out.image", "asm every.cmwq/file out.image")}
 PATHS |= {line: hostile.WRITE for line in ("asm every.cmwq every.cmwq", "asm every.cmwq ./every.cmwq", "asm every.cmwq .", "asm every.cmwq /dev/full", "trace every.cmwq --dat every.cmwq", "trace every.cmwq --dat .", "trace every.cmwq --dat /dev/full", "asm every.cmwq nowhere/out", "new .", "new nowhere/out", "new /dev/full")}
 # Inputs that never end: what stands before endless zeros, and what then is the end.
 TOO_LONG = (1, b"", b"line 0: TooLong\n")
-ENDLESS = {(line, "every.cmwq"): TOO_LONG for line in ("run /dev/stdin", "list /dev/stdin", "asm /dev/stdin out.image", "why /dev/stdin b", "debug /dev/stdin", "explore /dev/stdin --stuck")}
+ENDLESS = {(line, "every.cmwq"): TOO_LONG for line in ("run /dev/stdin", "settle /dev/stdin", "list /dev/stdin", "draw /dev/stdin", "asm /dev/stdin out.image", "why /dev/stdin b", "debug /dev/stdin", "explore /dev/stdin --stuck")}
 ENDLESS |= {
     ("check /dev/stdin", "every.cmwq"): (1, b"", b"/dev/stdin:0:0: text: TooLong\n"),
     ("show /dev/stdin", "every.image"): (1, b"", b"image: Extra\n"),
@@ -32,6 +36,10 @@ ENDLESS |= {
 }
 # What goes out in one write, so that nothing of other programs stands in its midst: help, the version, usage faults, a fault's line and a verdict.
 AT_ONCE = ("", "--help", "help show", "asm --help", "--version", "walk a", "run", "list a b", "why a", "explore a --stuck --before x b --before b c --before c b", "run nosuch.cmwq", "show every.cmwq", "check nosuch.cmwq")
+# Command lines of which reads and writes of one byte fail, so that they fail anywhere; `cmwq_tests` does that with `run`, `list`, `asm`, `show` and `debug`.
+BY_BYTES = ("settle -", "run --settle -", "run --tell -", "run --tell --settle -", "why - b", "why - b --every", "why - --flush 0", "why - --flush 0 --every", "why - b --every --settle", "draw --settle -", "draw --settle --svg -")
+# Command lines whose output goes out a block at a time, long before all of it is made, and how many bytes have gone out where the third write fails.
+IN_BLOCKS = {"why deepest.cmwq a": 8192, "why deepest.cmwq a --every": 8192}
 # What is known to be otherwise, and isn't mended: of these situations these faults.
 KNOWN = {
     # FILE is opened as descriptor 0, so its end is the end of the commands.
@@ -47,8 +55,9 @@ class Streams:
 
     def __init__(self, program, library, room):
         hostile.fill(program, room)
-        with open(f"{room}/many.cmwq", "w", encoding="utf-8") as it:
-            it.write(MANY)
+        for name, text in FILES.items():
+            with open(f"{room}/{name}", "w", encoding="utf-8") as it:
+                it.write(text)
         self.room, self.before, self.counted = room, hostile.files_in(room), hostile.Counted(program, library, room)
 
     def run(self, use, refused="", **how):
@@ -218,7 +227,34 @@ def parted_faults(streams, lines):
     return [("good streams", (line, ""), f"says what it says in {count} writes") for line, count in counts.items() if count != 1]
 
 
-def all_faults(program, uses, paths, endless, at_once=()):
+def byte_faults(streams, lines):
+    """What is wrong where each read and each write takes one byte, and one of them fails, some 40 of each in turn: a read before anything is
+    written, or a write behind what the writes before it took."""
+    faults = []
+    for use in ((line, hostile.EVERY) for line in lines):
+        whole, counts = streams.run(use, "bytes 0")
+        for kind, ends in (("read", hostile.READ), ("write", hostile.WRITE)):
+            for number in range(1, counts[kind] + 1, max(counts[kind] // 40, 1)):
+                outcome, _ = streams.run(use, f"{kind} {number} bytes")
+                wrote = b"" if kind == "read" else whole.output[: number - 1]
+                found = file_faults(use, streams, outcome, whole, ends) or ([] if outcome.output == wrote else [f"has written {len(outcome.output)} bytes"])
+                faults += [(f"single bytes, {kind} {number} failing", use, fault) for fault in found]
+    return faults
+
+
+def block_faults(streams, lines):
+    """What is wrong where an output should go out a block at a time, and so many bytes of it before the third."""
+    faults = []
+    for line, least in lines.items():
+        whole, counts = streams.run((line, ""))
+        cut, _ = streams.run((line, ""), "write 3")
+        found = file_faults((line, ""), streams, cut, whole, hostile.WRITE)
+        found += [] if counts["write"] > 100 and len(cut.output) >= least else [f"goes out in {counts['write']} writes, of which two have {len(cut.output)} bytes"]
+        faults += [("write 3 failing", (line, ""), fault) for fault in found]
+    return faults
+
+
+def all_faults(program, uses, paths, endless, at_once=(), by_bytes=(), in_blocks={}):
     """What is wrong, each fault with its situation and its command line."""
     faults = []
     with tempfile.TemporaryDirectory(prefix="streams-") as room:
@@ -228,16 +264,17 @@ def all_faults(program, uses, paths, endless, at_once=()):
             whole, counts = streams.run(use)
             found = situation_faults(streams, use, whole) + call_faults(streams, use, whole, counts)
             faults += [(situation, use, fault) for situation, fault in found]
-        return faults + stated_faults(streams, paths, endless) + parted_faults(streams, at_once)
+        faults += stated_faults(streams, paths, endless) + parted_faults(streams, at_once)
+        return faults + byte_faults(streams, by_bytes) + block_faults(streams, in_blocks)
 
 
 def main(program):
     uses = [*hostile.all_uses(), ("run many.cmwq", ""), ("run --tell many.cmwq", "")]
-    found = all_faults(program, uses, PATHS, ENDLESS, AT_ONCE)
+    found = all_faults(program, uses, PATHS, ENDLESS, AT_ONCE, BY_BYTES, IN_BLOCKS)
     faults = [f"{hostile.shown(use)}: {situation}: {fault}" for situation, use, fault in found if (situation, fault) not in KNOWN]
     faults += [f"{situation}: none {fault}, which stands among what is known" for situation, fault in KNOWN if (situation, fault) not in {(it[0], it[2]) for it in found}]
     print("".join(f"hostile streams: {fault}\n" for fault in faults), end="")
-    print(f"hostile streams: {len(uses) + len(PATHS) + len(ENDLESS) + len(AT_ONCE)} command lines, {len(KNOWN)} known faults, {len(faults)} others")
+    print(f"hostile streams: {len(uses) + len(PATHS) + len(ENDLESS) + len(AT_ONCE) + len(BY_BYTES) + len(IN_BLOCKS)} command lines, {len(KNOWN)} known faults, {len(faults)} others")
     return 1 if faults else 0
 
 

@@ -1,6 +1,6 @@
 // Preloaded into a program by gate/hostile.py. Counts the calls by which the program asks for memory (a thread's stack is memory
 // too), those that read and those that write, and has one of them fail. REFUSED names the kind and the number of the call, from 1,
-// and `bytes 0` has each read and each write take one byte. REFUSED_COUNTS is a file of three counters of 8 bytes, one a kind.
+// and `bytes` behind that, or alone with a 0, has each read and each write take one byte. REFUSED_COUNTS is a file of three counters of 8 bytes, one a kind.
 #define _GNU_SOURCE
 #include <dlfcn.h>
 #include <errno.h>
@@ -31,7 +31,7 @@ __attribute__((constructor)) static void begin(void) {
     for (int kind = 0; number && kind < KINDS; kind++)
         if (!strncmp(wanted, names[kind], number - wanted))
             refused[kind] = strtoul(number, NULL, 10);
-    by_bytes = wanted && !strncmp(wanted, "bytes ", 6);
+    by_bytes = wanted && strstr(wanted, "bytes");
     close(file);
     counts = shared == MAP_FAILED ? NULL : shared;
 }

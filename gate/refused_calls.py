@@ -155,7 +155,7 @@ class Caller(refused_memory.Worker):
 
 def uncovered():
     """The calls of the program, and the commands of the debugger, that the table lacks."""
-    calls = set(re.findall(r'^ +\(?"([\w:-]+)",', user_files.text_of("crates/cmwq_calls/src/call_name.rt"), re.M))
+    calls = set(re.findall(r'^ +"([\w:-]+)" => ', user_files.text_of("crates/cmwq_calls/src/call_name.rt"), re.M))
     body = re.search(r"^pub enum Command \{$(.*?)^\}$", user_files.text_of("crates/cmwq_debug/src/command.rt"), re.M | re.S)[1]
     commands = set(re.findall(r"^    (\w+)\b", body, re.M))
     return [f"the table lacks {name}" for name in sorted((calls | commands) - {call for call, _ in ROWS})]

@@ -28,11 +28,15 @@ PROGRAM = r"""
 #include <stdlib.h>
 #include <string.h>
 #include <unistd.h>
-static int said(const char *line, int status) { return write(2, line, strlen(line)) < 0 ? status : status; }
+static int said(const char *line, int status) {
+    for (ssize_t size; *line && (size = write(2, line, strlen(line))) > 0; line += size);
+    return status;
+}
 int main(int count, char **words) {
     int is_new = count > 1 && !strcmp(words[1], "new"), is_asm = count > 1 && !strcmp(words[1], "asm"), out = 1;
     signal(SIGPIPE, SIG_IGN);
     signal(SIGXFSZ, SIG_IGN);
+    READS;
     char *volatile first = malloc(8);
     if (!first) AT_FIRST;
     if (is_asm || is_new) out = open(words[count - 1], O_WRONLY | O_CREAT | (is_new ? O_EXCL : O_TRUNC), 0666);
@@ -62,7 +66,7 @@ int main() {
 """
 AGAIN = '"\\n= no memory\\n= held\\nit\\n= call\\none\\n"'
 WELL = {"AT_FIRST": 'return said("no memory\\n", 4)', "AT_SECOND": '{ if (is_new) unlink(words[count - 1]); return said("no memory\\n", 4); }'}
-WELL |= {"LINES": '"one\\ntwo\\n"', "UNWRITTEN": 'return said("write\\n", 3)'}
+WELL |= {"READS": "0", "LINES": '"one\\ntwo\\n"', "UNWRITTEN": 'return said("write\\n", 3)'}
 WELL |= {"BEFORE": 'return said("no memory\\n", 4)', "WITHIN": f"put({AGAIN})"}
 RUN, ASM, NEW = ("run x", ""), ("asm x out", ""), ("new fresh", "")
 
@@ -142,6 +146,25 @@ def check_streams(room):
     for script, wanted in [("printf one", 0), ("printf one; printf two", 1), ("printf one; printf two >&2", 1), ("true", 1)]:
         found = hostile_streams.all_faults(shell_program(room, script), [], {}, {}, ["--help"])
         assert len(found) == wanted, (script, found)
+    check_single_bytes(room)
+
+
+def check_single_bytes(room):
+    """What each stand-in does where a read or a write of one byte fails, and which goes out in blocks."""
+    reads = "{ char byte; long count; while ((count = read(0, &byte, 1)) > 0); if (count < 0) FAILED; }"
+    for words, is_well in [
+        ({}, True),
+        ({"READS": reads.replace("FAILED", 'return said("read\\n", 3)')}, True),
+        ({"READS": reads.replace("FAILED", ";")}, False),
+        ({"READS": reads.replace("FAILED", '{ write(1, "o", 1); return said("read\\n", 3); }')}, False),
+        ({"UNWRITTEN": "return 0"}, False),
+        ({"UNWRITTEN": '{ write(out, rest, 1); return said("write\\n", 3); }'}, False),
+    ]:
+        found = hostile_streams.all_faults(built(room, **words), [], {}, {}, by_bytes=["run -"])
+        assert bool(found) != is_well, (words, found)
+    for lines, least, is_well in [("x" * 200, 2, True), ("x" * 200, 3, False), ("x" * 20, 2, False)]:
+        found = hostile_streams.all_faults(built(room, LINES=f'"{lines}"'), [], {}, {}, in_blocks={"run x": least})
+        assert bool(found) != is_well, (lines, least, found)
 
 
 # It says of each text and image that it is faulty, and so passes.

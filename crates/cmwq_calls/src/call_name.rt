@@ -75,331 +75,230 @@ const FLUSHED: Inquiry<'static> = Inquiry {
     ..ASKED
 };
 
-/// Each call with its name.
-const CALLS: [(&str, CallName); 43] = [
-    ("Scenario::copy", CallName::Text(TextCall::Copy)),
-    ("assemble", CallName::Text(TextCall::Assemble)),
-    ("read_text", CallName::Text(TextCall::ReadText)),
-    ("list", CallName::Text(TextCall::List)),
-    ("read", CallName::Text(TextCall::Read)),
-    ("write", CallName::Text(TextCall::Write)),
-    ("Lists::new", CallName::Lists(StoreCall::New)),
-    ("Lists::copy", CallName::Lists(StoreCall::Copy)),
-    ("Timers::new", CallName::Timers(StoreCall::New)),
-    ("Timers::copy", CallName::Timers(StoreCall::Copy)),
-    (
-        "Plain::load",
-        CallName::On(Body::Plain, BodyCall::Machine(MachineCall::Load)),
-    ),
-    (
-        "Plain::copy",
-        CallName::On(Body::Plain, BodyCall::Machine(MachineCall::Copy)),
-    ),
-    (
-        "Plain::look",
-        CallName::On(Body::Plain, BodyCall::Machine(MachineCall::Look)),
-    ),
-    (
-        "Core::load",
-        CallName::On(Body::Core, BodyCall::Machine(MachineCall::Load)),
-    ),
-    (
-        "Core::copy",
-        CallName::On(Body::Core, BodyCall::Machine(MachineCall::Copy)),
-    ),
-    (
-        "Core::look",
-        CallName::On(Body::Core, BodyCall::Machine(MachineCall::Look)),
-    ),
-    (
-        "dump_text",
-        CallName::On(Body::Core, BodyCall::Machine(MachineCall::Dump)),
-    ),
-    (
-        "Engine::open",
-        CallName::On(Body::Core, BodyCall::Engine(EngineCall::Open)),
-    ),
-    (
-        "Shared::open",
-        CallName::On(Body::Core, BodyCall::Engine(EngineCall::OpenShared)),
-    ),
-    (
-        "TicketLock::open",
-        CallName::On(Body::Core, BodyCall::Engine(EngineCall::OpenLock)),
-    ),
-    (
-        "Debugger::open",
-        CallName::On(Body::Core, BodyCall::OpenDebugger),
-    ),
-    (
-        "Step",
-        CallName::On(Body::Core, BodyCall::Debugger(Asked::Going(Way::Step))),
-    ),
-    (
-        "Back",
-        CallName::On(Body::Core, BodyCall::Debugger(Asked::Going(Way::Back))),
-    ),
-    (
-        "Goto",
-        CallName::On(Body::Core, BodyCall::Debugger(Asked::Going(Way::Goto))),
-    ),
-    (
-        "Goto-copy",
-        CallName::On(Body::Core, BodyCall::Debugger(Asked::Going(Way::GotoCopy))),
-    ),
-    (
-        "Run",
-        CallName::On(Body::Core, BodyCall::Debugger(Asked::Going(Way::Run))),
-    ),
-    (
-        "BreakWork",
-        CallName::On(
-            Body::Core,
-            BodyCall::Debugger(Asked::There(Command::BreakWork {
-                work: WorkId(1),
-                event: EventKind::Finishes,
-            })),
-        ),
-    ),
-    (
-        "BreakTime",
-        CallName::On(
-            Body::Core,
-            BodyCall::Debugger(Asked::There(Command::BreakTime(9))),
-        ),
-    ),
-    (
-        "BreakRefusal",
-        CallName::On(
-            Body::Core,
-            BodyCall::Debugger(Asked::There(Command::BreakRefusal)),
-        ),
-    ),
-    (
-        "BreakActivation",
-        CallName::On(
-            Body::Core,
-            BodyCall::Debugger(Asked::There(Command::BreakActivation(WorkId(1)))),
-        ),
-    ),
-    (
-        "List",
-        CallName::On(Body::Core, BodyCall::Debugger(Asked::There(Command::List))),
-    ),
-    (
-        "Clear",
-        CallName::On(
-            Body::Core,
-            BodyCall::Debugger(Asked::There(Command::Clear(1))),
-        ),
-    ),
-    (
-        "Dump",
-        CallName::On(Body::Core, BodyCall::Debugger(Asked::There(Command::Dump))),
-    ),
-    (
-        "DumpPool",
-        CallName::On(
-            Body::Core,
-            BodyCall::Debugger(Asked::There(Command::DumpPool(0))),
-        ),
-    ),
-    (
-        "Why",
-        CallName::On(
-            Body::Core,
-            BodyCall::Debugger(Asked::There(Command::Why(WorkId(1)))),
-        ),
-    ),
-    (
-        "WhyFlush",
-        CallName::On(
-            Body::Core,
-            BodyCall::Debugger(Asked::There(Command::WhyFlush(0))),
-        ),
-    ),
-    (
-        "run",
-        CallName::Stream(StreamCall::Do(Task::Run(RunKind::Plain))),
-    ),
-    (
-        "run_told",
-        CallName::Stream(StreamCall::Do(Task::Run(RunKind::Told))),
-    ),
-    (
-        "run_settled",
-        CallName::Stream(StreamCall::Do(Task::Run(RunKind::Settled))),
-    ),
-    (
-        "settle_text",
-        CallName::Stream(StreamCall::Do(Task::Settle)),
-    ),
-    ("list_text", CallName::Stream(StreamCall::Do(Task::List))),
-    ("from_image", CallName::Stream(StreamCall::Do(Task::Show))),
-    ("to_image", CallName::Stream(StreamCall::ToImage)),
-];
-
-/// The calls that draw, answer and tell, by their names, and the others that read an input and write an output.
-const STREAM_CALLS: [(&str, CallName); 30] = [
-    ("draw", CallName::Stream(StreamCall::Do(Task::Draw(DRAWN)))),
-    (
-        "draw-settled",
-        CallName::Stream(StreamCall::Do(Task::Draw(SETTLED))),
-    ),
-    (
-        "draw-svg",
-        CallName::Stream(StreamCall::Do(Task::Draw(Drawing {
-            form: STYLED,
-            ..DRAWN
-        }))),
-    ),
-    (
-        "draw-settled-svg",
-        CallName::Stream(StreamCall::Do(Task::Draw(Drawing {
-            form: STYLED,
-            ..SETTLED
-        }))),
-    ),
-    (
-        "draw-some",
-        CallName::Stream(StreamCall::Do(Task::Draw(SOME))),
-    ),
-    (
-        "draw-some-svg",
-        CallName::Stream(StreamCall::Do(Task::Draw(Drawing {
-            form: STYLED,
-            ..SOME
-        }))),
-    ),
-    ("why", CallName::Stream(StreamCall::Do(Task::Why(ASKED)))),
-    (
-        "why-every",
-        CallName::Stream(StreamCall::Do(Task::Why(Inquiry {
-            looks: Looks::Every,
-            ..ASKED
-        }))),
-    ),
-    (
-        "why-at",
-        CallName::Stream(StreamCall::Do(Task::Why(Inquiry {
-            looks: Looks::At(9),
-            ..ASKED
-        }))),
-    ),
-    (
-        "why-flush",
-        CallName::Stream(StreamCall::Do(Task::Why(FLUSHED))),
-    ),
-    (
-        "why-flush-every",
-        CallName::Stream(StreamCall::Do(Task::Why(Inquiry {
-            looks: Looks::Every,
-            ..FLUSHED
-        }))),
-    ),
-    (
-        "why-flush-at",
-        CallName::Stream(StreamCall::Do(Task::Why(Inquiry {
-            looks: Looks::At(24),
-            ..FLUSHED
-        }))),
-    ),
-    (
-        "why-time",
-        CallName::Stream(StreamCall::Do(Task::Why(Inquiry {
-            looks: Looks::Time(3),
-            ..ASKED
-        }))),
-    ),
-    (
-        "why-settled",
-        CallName::Stream(StreamCall::Do(Task::Why(Inquiry {
-            settle: true,
-            ..ASKED
-        }))),
-    ),
-    (
-        "times",
-        CallName::Stream(StreamCall::Do(Task::Times(Times {
-            format: Format::Text,
-            whom: false,
-        }))),
-    ),
-    (
-        "times-json",
-        CallName::Stream(StreamCall::Do(Task::Times(Times {
-            format: Format::Json,
-            whom: false,
-        }))),
-    ),
-    (
-        "times-whom",
-        CallName::Stream(StreamCall::Do(Task::Times(Times {
-            format: Format::Text,
-            whom: true,
-        }))),
-    ),
-    ("sweep", CallName::Stream(StreamCall::Sweep)),
-    (
-        "trace-json",
-        CallName::Stream(StreamCall::Do(Task::Trace(TraceForm::Json))),
-    ),
-    (
-        "trace-lines",
-        CallName::Stream(StreamCall::Do(Task::Trace(TraceForm::Lines))),
-    ),
-    (
-        "trace-text",
-        CallName::Stream(StreamCall::Do(Task::Trace(TraceForm::Text))),
-    ),
-    ("trace-dat", CallName::Stream(StreamCall::TraceData)),
-    (
-        "run_told-settled",
-        CallName::Stream(StreamCall::Do(Task::Run(RunKind::ToldSettled))),
-    ),
-    (
-        "draw-folded",
-        CallName::Stream(StreamCall::Do(Task::Draw(Drawing {
-            fold: true,
-            ..DRAWN
-        }))),
-    ),
-    (
-        "draw-works",
-        CallName::Stream(StreamCall::Do(Task::Draw(Drawing {
-            works: Some("b"),
-            ..DRAWN
-        }))),
-    ),
-    ("check", CallName::Stream(StreamCall::Check)),
-    ("new", CallName::Stream(StreamCall::New)),
-    ("explore", CallName::Stream(StreamCall::Explore)),
-    ("debug", CallName::Debug),
-    ("play", CallName::Play),
-];
-
 /// The call of this name, if there is one.
 pub(crate) fn call_of(word: &str) -> Option<CallName> {
-    match first_call_of(word) {
-        Some(call) => Some(call),
-        None => stream_call_of(word),
+    match word {
+        "Lists::new" => Some(CallName::Lists(StoreCall::New)),
+        "Lists::copy" => Some(CallName::Lists(StoreCall::Copy)),
+        "Timers::new" => Some(CallName::Timers(StoreCall::New)),
+        "Timers::copy" => Some(CallName::Timers(StoreCall::Copy)),
+        "debug" => Some(CallName::Debug),
+        "play" => Some(CallName::Play),
+        _ => call_with_text(word),
     }
 }
 
-fn first_call_of(word: &str) -> Option<CallName> {
-    found(&CALLS, word).copied()
-}
-
-fn stream_call_of(word: &str) -> Option<CallName> {
-    found(&STREAM_CALLS, word).copied()
-}
-
-/// What has this name among these, if something has it.
-fn found<'a, T>(all: &'a [(&str, T)], word: &str) -> Option<&'a T> {
-    for (name, it) in all {
-        if *name == word {
-            return Some(it);
-        }
+/// The call of this name that is made with a scenario's text, if there is one.
+fn call_with_text(word: &str) -> Option<CallName> {
+    if let Some(call) = text_call_of(word) {
+        return Some(CallName::Text(call));
     }
-    None
+    if let Some(call) = plain_call_of(word) {
+        return Some(CallName::On(Body::Plain, call));
+    }
+    if let Some(call) = core_call_of(word) {
+        return Some(CallName::On(Body::Core, call));
+    }
+    stream_call_of(word).map(CallName::Stream)
+}
+
+fn text_call_of(word: &str) -> Option<TextCall> {
+    match word {
+        "Scenario::copy" => Some(TextCall::Copy),
+        "assemble" => Some(TextCall::Assemble),
+        "read_text" => Some(TextCall::ReadText),
+        "list" => Some(TextCall::List),
+        "read" => Some(TextCall::Read),
+        "write" => Some(TextCall::Write),
+        _ => None,
+    }
+}
+
+fn plain_call_of(word: &str) -> Option<BodyCall> {
+    match word {
+        "Plain::load" => Some(BodyCall::Machine(MachineCall::Load)),
+        "Plain::copy" => Some(BodyCall::Machine(MachineCall::Copy)),
+        "Plain::look" => Some(BodyCall::Machine(MachineCall::Look)),
+        _ => None,
+    }
+}
+
+fn core_call_of(word: &str) -> Option<BodyCall> {
+    match word {
+        "Core::load" => Some(BodyCall::Machine(MachineCall::Load)),
+        "Core::copy" => Some(BodyCall::Machine(MachineCall::Copy)),
+        "Core::look" => Some(BodyCall::Machine(MachineCall::Look)),
+        "dump_text" => Some(BodyCall::Machine(MachineCall::Dump)),
+        "Engine::open" => Some(BodyCall::Engine(EngineCall::Open)),
+        "Shared::open" => Some(BodyCall::Engine(EngineCall::OpenShared)),
+        "TicketLock::open" => Some(BodyCall::Engine(EngineCall::OpenLock)),
+        "Debugger::open" => Some(BodyCall::OpenDebugger),
+        _ => asked_of(word).map(BodyCall::Debugger),
+    }
+}
+
+/// What the debugger is told, by the name of its command.
+fn asked_of(word: &str) -> Option<Asked> {
+    match word {
+        "Step" => Some(Asked::Going(Way::Step)),
+        "Back" => Some(Asked::Going(Way::Back)),
+        "Goto" => Some(Asked::Going(Way::Goto)),
+        "Goto-copy" => Some(Asked::Going(Way::GotoCopy)),
+        "Run" => Some(Asked::Going(Way::Run)),
+        _ => command_of(word).map(Asked::There),
+    }
+}
+
+fn command_of(word: &str) -> Option<Command> {
+    match word {
+        "BreakWork" => Some(Command::BreakWork {
+            work: WorkId(1),
+            event: EventKind::Finishes,
+        }),
+        "BreakTime" => Some(Command::BreakTime(9)),
+        "BreakRefusal" => Some(Command::BreakRefusal),
+        "BreakActivation" => Some(Command::BreakActivation(WorkId(1))),
+        "List" => Some(Command::List),
+        "Clear" => Some(Command::Clear(1)),
+        "Dump" => Some(Command::Dump),
+        "DumpPool" => Some(Command::DumpPool(0)),
+        "Why" => Some(Command::Why(WorkId(1))),
+        "WhyFlush" => Some(Command::WhyFlush(0)),
+        _ => None,
+    }
+}
+
+fn stream_call_of(word: &str) -> Option<StreamCall> {
+    match word {
+        "to_image" => Some(StreamCall::ToImage),
+        "trace-dat" => Some(StreamCall::TraceData),
+        "sweep" => Some(StreamCall::Sweep),
+        "check" => Some(StreamCall::Check),
+        "new" => Some(StreamCall::New),
+        "explore" => Some(StreamCall::Explore),
+        _ => task_of(word).map(StreamCall::Do),
+    }
+}
+
+/// The task whose call has this name.
+fn task_of(word: &str) -> Option<Task<'static>> {
+    match word {
+        "settle_text" => Some(Task::Settle),
+        "list_text" => Some(Task::List),
+        "from_image" => Some(Task::Show),
+        _ => telling_of(word),
+    }
+}
+
+/// The task that tells of a run, by the name of its call.
+fn telling_of(word: &str) -> Option<Task<'static>> {
+    if let Some(kind) = run_kind_of(word) {
+        return Some(Task::Run(kind));
+    }
+    if let Some(drawing) = drawing_of(word) {
+        return Some(Task::Draw(drawing));
+    }
+    if let Some(inquiry) = inquiry_of(word) {
+        return Some(Task::Why(inquiry));
+    }
+    if let Some(times) = times_of(word) {
+        return Some(Task::Times(times));
+    }
+    trace_form_of(word).map(Task::Trace)
+}
+
+fn run_kind_of(word: &str) -> Option<RunKind> {
+    match word {
+        "run" => Some(RunKind::Plain),
+        "run_told" => Some(RunKind::Told),
+        "run_settled" => Some(RunKind::Settled),
+        "run_told-settled" => Some(RunKind::ToldSettled),
+        _ => None,
+    }
+}
+
+fn drawing_of(word: &str) -> Option<Drawing<'static>> {
+    match word {
+        "draw" => Some(DRAWN),
+        "draw-settled" => Some(SETTLED),
+        "draw-some" => Some(SOME),
+        "draw-svg" => Some(Drawing {
+            form: STYLED,
+            ..DRAWN
+        }),
+        "draw-settled-svg" => Some(Drawing {
+            form: STYLED,
+            ..SETTLED
+        }),
+        "draw-some-svg" => Some(Drawing {
+            form: STYLED,
+            ..SOME
+        }),
+        "draw-folded" => Some(Drawing {
+            fold: true,
+            ..DRAWN
+        }),
+        "draw-works" => Some(Drawing {
+            works: Some("b"),
+            ..DRAWN
+        }),
+        _ => None,
+    }
+}
+
+fn inquiry_of(word: &str) -> Option<Inquiry<'static>> {
+    match word {
+        "why" => Some(ASKED),
+        "why-every" => Some(Inquiry {
+            looks: Looks::Every,
+            ..ASKED
+        }),
+        "why-at" => Some(Inquiry {
+            looks: Looks::At(9),
+            ..ASKED
+        }),
+        "why-time" => Some(Inquiry {
+            looks: Looks::Time(3),
+            ..ASKED
+        }),
+        "why-settled" => Some(Inquiry {
+            settle: true,
+            ..ASKED
+        }),
+        _ => flush_inquiry_of(word),
+    }
+}
+
+fn flush_inquiry_of(word: &str) -> Option<Inquiry<'static>> {
+    match word {
+        "why-flush" => Some(FLUSHED),
+        "why-flush-every" => Some(Inquiry {
+            looks: Looks::Every,
+            ..FLUSHED
+        }),
+        "why-flush-at" => Some(Inquiry {
+            looks: Looks::At(24),
+            ..FLUSHED
+        }),
+        _ => None,
+    }
+}
+
+fn times_of(word: &str) -> Option<Times> {
+    let (format, whom) = match word {
+        "times" => (Format::Text, false),
+        "times-json" => (Format::Json, false),
+        "times-whom" => (Format::Text, true),
+        _ => return None,
+    };
+    Some(Times { format, whom })
+}
+
+fn trace_form_of(word: &str) -> Option<TraceForm> {
+    match word {
+        "trace-json" => Some(TraceForm::Json),
+        "trace-lines" => Some(TraceForm::Lines),
+        "trace-text" => Some(TraceForm::Text),
+        _ => None,
+    }
 }

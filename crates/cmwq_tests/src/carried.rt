@@ -4,13 +4,7 @@ ghost use Rattle.std.specs.Prelude.{◌≡◌, false};
 use crate::examples::MAX_ACTIVE_3;
 use crate::streams::{Input, Output, reading_of};
 use cmwq_debug_session::{Manner, debug};
-use cmwq_draw::draw;
-use cmwq_drawing::{Drawing, Form, Span, Style};
-use cmwq_explain::why;
 use cmwq_play::{Marked, PlayError, from_image, list_text, read_text, run, to_image};
-use cmwq_question::{Inquiry, Looks, Question};
-use cmwq_settle::{run_settled, settle_text};
-use cmwq_tell::run_told;
 use std::alloc::Global;
 
 /// A command over a reader and a writer.
@@ -24,38 +18,8 @@ pub(crate) enum Command {
     Asm,
     /// List a scenario's image.
     Show,
-    /// List a settled scenario.
-    Settle,
-    /// Run a scenario's text until its machine is quiet.
-    RunSettled,
-    /// Run a scenario's text, or, where it is `true`, the settled scenario, and tell each instruction and what it changes unseen.
-    RunTold(bool),
-    /// Tell why a work of a scenario's text isn't further, or what a flush waits for.
-    Why(Inquiry<'static>),
-    /// Draw the whole run of a settled scenario, as text.
-    Draw,
-    /// The same as SVG.
-    DrawSvg,
     /// Debug the kernel's document's works under `max_active` 3.
     Debug,
-}
-
-/// The question to a run as far as its actor's instructions go.
-pub(crate) fn asked(question: Question<'static>, looks: Looks) -> Command {
-    Command::Why(Inquiry {
-        question,
-        looks,
-        settle: false,
-    })
-}
-
-/// The question to a settled run.
-pub(crate) fn asked_settled(question: Question<'static>, looks: Looks) -> Command {
-    Command::Why(Inquiry {
-        question,
-        looks,
-        settle: true,
-    })
 }
 
 /// What a command answered, and what was read and written.
@@ -85,12 +49,6 @@ pub(crate) fn carried_out(
         Command::List => list_text(alloc, &mut reader, &mut writer),
         Command::Asm => to_image(alloc, &mut reader, &mut writer),
         Command::Show => from_image(alloc, &mut reader, &mut writer),
-        Command::Settle => settle_text(alloc, &mut reader, &mut writer),
-        Command::RunSettled => run_settled(alloc, &mut reader, &mut writer),
-        Command::RunTold(settle) => run_told(alloc, settle, &mut reader, &mut writer),
-        Command::Why(inquiry) => why(alloc, inquiry, &mut reader, &mut writer),
-        Command::Draw => draw(alloc, whole(Form::Text), &mut reader, &mut writer),
-        Command::DrawSvg => draw(alloc, whole(PLAIN_SVG), &mut reader, &mut writer),
         Command::Debug => debugged(alloc, &mut reader, &mut writer),
     };
     let output = writer.into_inner();
@@ -99,27 +57,6 @@ pub(crate) fn carried_out(
         reads: reader.inner.calls,
         writes: output.calls,
         written: output.taken,
-    }
-}
-
-/// As SVG, with the width and the name that are taken where none is given.
-const PLAIN_SVG: Form<'static> = Form::Svg(Style {
-    scale: None,
-    id: None,
-});
-
-/// The drawing of all ticks of a settled scenario.
-fn whole(form: Form<'static>) -> Drawing<'static> {
-    let span = Span {
-        from: None,
-        to: None,
-    };
-    Drawing {
-        settle: true,
-        fold: false,
-        span,
-        works: None,
-        form,
     }
 }
 

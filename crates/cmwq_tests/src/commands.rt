@@ -1,13 +1,12 @@
 //! The commands over memory: reads and writes that fail, lines that go out before all are made, and input without end.
-use crate::carried::{Command, Outcome, asked, asked_settled, carried_out};
+use crate::carried::{Command, Outcome, carried_out};
 use crate::checking::same;
-use crate::examples::IMAGE_OF_STEPS_RUN_OUT;
+use crate::examples::{IMAGE_OF_STEPS_RUN_OUT, MAX_ACTIVE_3};
 use crate::streams::{Failure, Input, reading_of, writing_to};
 use cmwq_asm::AsmError;
 use cmwq_grammar::Why;
 use cmwq_image::ImageError;
 use cmwq_play::PlayError;
-use cmwq_question::{Looks, Question};
 use std::alloc::Global;
 use std::process::Abort;
 
@@ -19,64 +18,12 @@ fn written(rt: &impl Abort, alloc: Global, command: Command, bytes: &[u8], step:
     outcome.written
 }
 
-/// A work waits for a place in its queue, then the pool's level, a place on the CPU, the high pool, and a burn; and its actor stops before.
-const CHAIN: &[u8] = b"cpus 1
-workers 4
-steps 100
-flushes 1
-queue p max 4
-queue q max 1
-queue h max 1 highpri
-work c p
-work d p
-work x q
-work y q
-work u h
-body c
-burn 9
-finish
-body d
-sleep 1
-burn 5
-finish
-body x
-burn 1
-finish
-body y
-burn 1
-finish
-body u
-burn 9
-finish
-actor t
-queue d 0
-next * 2
-queue c 0
-next * 5
-queue x 0
-queue y 0
-queue u 0
-next * 2
-flush y
-";
-
 /// Commands and what they read.
-fn inputs() -> [(Command, &'static [u8]); 15] {
+fn inputs() -> [(Command, &'static [u8]); 4] {
     [
-        (Command::Settle, CHAIN),
-        (Command::RunSettled, CHAIN),
-        (Command::RunTold(false), CHAIN),
-        (Command::RunTold(true), CHAIN),
-        (asked(Question::Work("y"), Looks::Settled), CHAIN),
-        (asked(Question::Work("y"), Looks::Every), CHAIN),
-        (asked(Question::Flush(0), Looks::Settled), CHAIN),
-        (asked(Question::Flush(0), Looks::Every), CHAIN),
-        (asked_settled(Question::Work("y"), Looks::Every), CHAIN),
-        (Command::Draw, CHAIN),
-        (Command::DrawSvg, CHAIN),
-        (Command::Run, CHAIN),
-        (Command::List, CHAIN),
-        (Command::Asm, CHAIN),
+        (Command::Run, MAX_ACTIVE_3),
+        (Command::List, MAX_ACTIVE_3),
+        (Command::Asm, MAX_ACTIVE_3),
         (Command::Show, &IMAGE_OF_STEPS_RUN_OUT),
     ]
 }
@@ -189,32 +136,6 @@ fn lines_go_out_before_all_are_made(rt: HostRuntime) {
     same(&rt, "a block at a time", outcome.writes > 100, true);
 }
 
-/// A work that is disabled 65,536 times, and then enabled.
-const DEEPEST: &[u8] =
-    b"cpus 1\nworkers 1\nsteps 70000\nflushes 0\nqueue q max 1\nwork a q\nbody a\nfinish\n\
-    actor t\ndisable a * 65535\ndisable a\nenable a\n";
-
-/// All that is told of it, where the writer's call of this number fails.
-fn told_of_deepest(alloc: Global, looks: Looks, fails: usize) -> Outcome {
-    let mut output = writing_to(alloc, 1_000_000);
-    output.fails = fails;
-    let command = asked(Question::Work("a"), looks);
-    carried_out(alloc, command, reading_of(DEEPEST, 4096), output)
-}
-
-#[test]
-fn lines_are_told_before_all_are_made(rt: HostRuntime) {
-    for looks in [Looks::Settled, Looks::Every] {
-        let whole = told_of_deepest(rt.alloc(), looks, 0);
-        same(&rt, looks, whole.result, Ok(()));
-        same(&rt, looks, whole.writes > 100, true);
-        let cut = told_of_deepest(rt.alloc(), looks, 3);
-        same(&rt, looks, cut.result, Err(PlayError::Write));
-        same(&rt, looks, whole.written.starts_with(&cut.written), true);
-        same(&rt, looks, cut.written.len() > 8192, true);
-    }
-}
-
 /// The command answers this error and writes nothing. The answer is how often it read.
 fn check_refused(
     rt: &impl Abort,
@@ -246,13 +167,7 @@ fn input_without_end_is_refused(rt: HostRuntime) {
         line: 0,
         why: Why::TooLong,
     });
-    for command in [
-        Command::Run,
-        Command::List,
-        Command::Asm,
-        Command::Settle,
-        Command::Draw,
-    ] {
+    for command in [Command::Run, Command::List, Command::Asm] {
         let reads = check_refused(&rt, rt.alloc(), command, endless(b""), too_long);
         // 4,194,305 bytes, 4,096 a call
         same(&rt, "reads", reads, 1025);
