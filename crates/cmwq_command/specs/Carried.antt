@@ -11,11 +11,11 @@ use Rattle.cmwq_command.specs.ExploredFiles.{HasExploredFile}
 use Rattle.cmwq_command.specs.SweptFiles.{HasSweptFile}
 use Rattle.cmwq_command.specs.Tasks.{IsGoalOf, IsTaskFault, IsWrittenBy}
 use Rattle.cmwq_command_line.specs.CommandLine.{version_line}
-use Rattle.cmwq_data_trace.specs.DataTrace.{dat_of_run}
+use Rattle.cmwq_kernel_trace.specs.DataTrace.{dat_of_run}
 use Rattle.cmwq_debug_lines.specs.declared.manner.Manner.{Manner}
 use Rattle.cmwq_debug_session.specs.Told.{IsDebugged, IsFrontTold, IsTalkError}
 use Rattle.cmwq_language.specs.Page.{language_page}
-use Rattle.cmwq_framed.specs.Framing.{IsTextOfRun}
+use Rattle.cmwq_play.specs.Framing.{IsTextOfRun}
 use Rattle.cmwq_interleaving.specs.Plays.{HasFronts, IsFull, Left, LeftFront}
 use Rattle.cmwq_outcome.specs.Checking.{HasTold, status_of_judged}
 use Rattle.cmwq_outcome.specs.FaultsTold.{Prints}

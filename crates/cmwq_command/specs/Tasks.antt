@@ -6,9 +6,9 @@ use Rattle.cmwq_reports.specs.declared.report.TraceForm.TheVariants as form
 use Rattle.cmwq_tasks.specs.declared.task.Task.TheVariants.{Run, Settle, List as Listing, Show, Draw, Why, Times as Timed, Trace}
 use Rattle.cmwq_draw.specs.Drawn.{IsDrawFault, IsDrawnText}
 use Rattle.cmwq_explain.specs.Explained.{AreChanges, IsAnswer, IsUnanswered}
-use Rattle.cmwq_framed.specs.Framing.{IsTextOfRun}
-use Rattle.cmwq_kernel_text.specs.KernelText.{ftrace_text}
-use Rattle.cmwq_line_trace.specs.Lines.{objects_text}
+use Rattle.cmwq_play.specs.Framing.{IsTextOfRun}
+use Rattle.cmwq_kernel_trace.specs.KernelText.{ftrace_text}
+use Rattle.cmwq_trace.specs.Lines.{objects_text}
 use Rattle.cmwq_play.specs.Images.{IsImageFault, IsShown}
 use Rattle.cmwq_play.specs.PlayTexts.{ComesTo, IsFaultOf as IsTextFaultOf, IsOutput, IsRun, IsRunFault, IsTextFault}
 use Rattle.cmwq_settle.specs.Settling.{IsFollowedRun, IsSettledRun, IsSettledText, IsUnsettledRun, IsUnsettledText}

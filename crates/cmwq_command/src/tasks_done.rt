@@ -5,15 +5,14 @@ ghost use Rattle.std.specs.Prelude.{◌≡◌, false};
 
 use cmwq_draw::draw;
 use cmwq_explain::why;
-use cmwq_kernel_text::trace_text;
-use cmwq_line_trace::trace_lines;
+use cmwq_kernel_trace::trace_text;
 use cmwq_play::{PlayError, Sink, Source, from_image, list_text, run};
 use cmwq_reports::TraceForm;
 use cmwq_settle::{run_settled, settle_text};
 use cmwq_tasks::{RunKind, Task};
 use cmwq_tell::run_told;
 use cmwq_times::times;
-use cmwq_trace::trace_json;
+use cmwq_trace::{trace_json, trace_lines};
 use std::alloc::Global;
 
 /// Does the task with what the reader has; what comes of it goes to the writer.

@@ -23,7 +23,7 @@ use Rattle.cmwq_request.specs.declared.request.Request.TheVariants.{Asm, Debug, 
 use Rattle.cmwq_language.specs.Page.{language_page}
 use Rattle.cmwq_settle.specs.Settled.{IsSettledIf}
 use Rattle.cmwq_settle.specs.Settling.{IsFollowedOutput, IsSettledListing}
-use Rattle.cmwq_starter.specs.Starter.{first_lines, first_scenario}
+use Rattle.cmwq_outcome.specs.Starter.{first_lines, first_scenario}
 use Rattle.cmwq_streams.specs.declared.error.PlayError.{PlayError}
 use Rattle.cmwq_streams.specs.declared.error.PlayError.TheVariants.{Full, Read}
 use Rattle.cmwq_table.specs.Events.{events}

@@ -10,7 +10,7 @@ use Rattle.cmwq_outcome.specs.Checking.{HasRead, status_of_judged}
 use Rattle.cmwq_outcome.specs.declared.file_verdict.Judged.{Judged}
 use Rattle.cmwq_outcome.specs.declared.file_verdict.Judged.TheVariants.{Good, Unread}
 use Rattle.cmwq_remarks.specs.Notes.{AreNotes}
-use Rattle.cmwq_starter.specs.Starter.{first_scenario}
+use Rattle.cmwq_outcome.specs.Starter.{first_scenario}
 use Rattle.cmwq_verdict.specs.declared.looks.Look.{Look}
 
 max-is : (a b : ℕ) → (max a b ≡ a) ⊎ (max a b ≡ b)

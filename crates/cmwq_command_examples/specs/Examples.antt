@@ -9,7 +9,7 @@ use Rattle.cmwq_play.specs.Commands.{IsOutside}
 use Rattle.cmwq_request.specs.Request.{request_words}
 use Rattle.cmwq_request.specs.declared.request.Request.{Request}
 use Rattle.cmwq_request.specs.declared.request.Request.TheVariants.{Debug, Do}
-use Rattle.cmwq_starter.specs.Starter.{first_scenario}
+use Rattle.cmwq_outcome.specs.Starter.{first_scenario}
 use Rattle.cmwq_streams.specs.declared.error.PlayError.{PlayError}
 use Rattle.cmwq_tasks.specs.declared.task.Task.{Task}
 use Rattle.cmwq_verdict.specs.declared.looks.Look.{Look}

@@ -14,7 +14,7 @@ ghost use Rattle.cmwq_request.specs.Request.{request_words};
 ghost use Rattle.cmwq_language.specs.Page.{language_page};
 ghost use Rattle.cmwq_settle.specs.Settled.{IsSettledIf};
 ghost use Rattle.cmwq_settle.specs.Settling.{IsFollowedOutput, IsSettledListing};
-ghost use Rattle.cmwq_starter.specs.Starter.{first_lines, first_scenario};
+ghost use Rattle.cmwq_outcome.specs.Starter.{first_lines, first_scenario};
 ghost use Rattle.cmwq_streams.specs.declared.error.PlayError.TheVariants as errors;
 ghost use Rattle.cmwq_drawing.specs.declared.drawing.Drawing.{Drawing};
 ghost use Rattle.cmwq_question.specs.declared.question.Inquiry.{Inquiry};
@@ -26,9 +26,9 @@ ghost use Rattle.std.specs.Io.KnownBytes.{Appends};
 ghost use Rattle.std.specs.Prelude.{◌≡◌, ◌∷◌, [], ℕ, Bool, Err, List, None, Ok, Option, Some, codes, false, true};
 
 use cmwq_grammar::laws::text_spells_one_scenario;
+use cmwq_outcome::first_scenario_prints;
 use cmwq_reports::{Format, TraceForm};
 use cmwq_request::request::Request;
-use cmwq_starter::first_scenario_prints;
 use cmwq_tasks::{RunKind, Task};
 
 /// The words of each request: the command's, and then the file's.

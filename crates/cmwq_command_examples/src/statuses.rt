@@ -5,7 +5,7 @@ ghost use Rattle.cmwq_grammar.specs.Grammar.{Spells};
 ghost use Rattle.cmwq_outcome.specs.Checking.{status_of_judged};
 ghost use Rattle.cmwq_outcome.specs.declared.file_verdict.Judged.TheVariants as judged;
 ghost use Rattle.cmwq_remarks.specs.Notes.{AreNotes};
-ghost use Rattle.cmwq_starter.specs.Starter.{first_scenario};
+ghost use Rattle.cmwq_outcome.specs.Starter.{first_scenario};
 ghost use Rattle.cmwq_streams.specs.declared.error.PlayError.TheVariants as errors;
 ghost use Rattle.cmwq_verdict.specs.declared.looks.Look.{Look};
 ghost use Rattle.std.specs.Prelude.{◌≡◌, ◌++◌, ℕ, Err, List, Ok, Some, codes};

@@ -21,8 +21,8 @@ use Rattle.cmwq_table.specs.declared.state.Running.{Running}
 use Rattle.cmwq_idle.specs.Idle.{WorkersContents}
 use Rattle.cmwq_queued.specs.QueuedContents.{QueuedContents}
 use Rattle.cmwq_running.specs.RunningContents.{RunningContents}
-use Rattle.cmwq_mask.specs.Far.{FarPoolsStay, IsFar, seen_listed, seen_run}
-use Rattle.cmwq_mask.proofs.FarLemmas.{far_pools_stay}
+use Rattle.cmwq_idle.specs.Far.{FarPoolsStay, IsFar, seen_listed, seen_run}
+use Rattle.cmwq_idle.proofs.FarLemmas.{far_pools_stay}
 use Rattle.cmwq_core.specs.Moving.{IsCovered, IsGrown, listed_pool, moving_state}
 use Rattle.cmwq_core.proofs.StaffLemmas.{one_seat, set_read}
 

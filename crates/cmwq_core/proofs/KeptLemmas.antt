@@ -24,7 +24,7 @@ use Rattle.cmwq_table.specs.declared.state.Running.{Running}
 use Rattle.cmwq_idle.specs.Idle.{WorkersContents, no_workers}
 use Rattle.cmwq_queued.specs.QueuedContents.{QueuedContents, deferred_in, with_pending}
 use Rattle.cmwq_running.specs.RunningContents.{RunningContents, woken_run}
-use Rattle.cmwq_mask.specs.Far.{IsFar}
+use Rattle.cmwq_idle.specs.Far.{IsFar}
 use Rattle.cmwq_core.specs.CoreLayout.{IsKept, IsLaidOut}
 use Rattle.cmwq_core.specs.Moving.{IsGrown, listed_pool, moving_state}
 use Rattle.cmwq_core.specs.Staff.{RunsOnWorker, runs_at}

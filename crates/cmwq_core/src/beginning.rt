@@ -8,8 +8,8 @@ ghost use Rattle.cmwq_types.specs.Setting.{IsSetting};
 ghost use Rattle.std.specs.Prelude.{◌≡◌, ◌≤◌, IfOk, [], None, length, map, replicate, vec_capacity};
 
 use cmwq_idle::IdleWorkers;
-use cmwq_looks::{copied_flushes, declared_max};
 use cmwq_queued::QueuedWorks;
+use cmwq_reads::{copied_flushes, declared_max};
 use cmwq_running::RunningWorks;
 use cmwq_table::FlushTarget;
 use cmwq_types::{NoMemory, Scenario, filled};

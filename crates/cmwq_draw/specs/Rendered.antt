@@ -5,7 +5,7 @@ use Rattle.cmwq_types.specs.Contents.{ActorContents, ScenarioContents}
 use Rattle.cmwq_types.specs.Scenario.{expand}
 use Rattle.cmwq_types.specs.declared.instr.WorkId.{WorkId}
 use Rattle.cmwq_types.specs.declared.instr.Instr.{Instr}
-use Rattle.cmwq_hints.specs.Hints.{hints}
+use Rattle.cmwq_draw.specs.Hints.{hints}
 use Rattle.cmwq_picture.specs.PictureContents.{PictureContents}
 use Rattle.cmwq_picture.specs.PictureOfRun.{is_too_wide, picture}
 use Rattle.cmwq_render.specs.Sketch.{picture_text}

@@ -5,8 +5,8 @@ ghost use Rattle.cmwq_types.specs.Faults.{IsValid};
 ghost use Rattle.cmwq_types.specs.Scenario.{expand_lines};
 ghost use Rattle.std.specs.Prelude.{◌≡◌, ◌⊎◌, ◌<◌, Err, IfErr, IfOk, false, true};
 
+use crate::hints;
 use cmwq_drawing::{Drawing, Form};
-use cmwq_hints::hints;
 use cmwq_picture::{Extent, Picture, picture};
 use cmwq_render::sketch;
 use cmwq_streams::PlayError;

@@ -1,3 +1,4 @@
 mod EntryLemmas
+mod FullLemmas
 mod IssueLemmas
 pub mod ReceiptLemmas

@@ -1,4 +1,5 @@
 pub mod Engine
+pub mod FullIssues
 pub mod History
 pub mod Issuing
 pub mod Laws

@@ -1,10 +1,11 @@
-//! What may stand at a place of a scenario's text, and what a word that can't stand there is meant as.
+//! What may stand at a place of a scenario's text, and what a word that can't stand there is meant as; with a law on where a line may end.
 #![tactic(auto)]
 
 pub mod examples;
 mod faults;
 mod gap;
 mod knowing;
+mod laws;
 mod meaning;
 mod near_misses;
 mod nearness;
@@ -14,6 +15,10 @@ mod offer;
 pub use faults::{TextFault, text_fault};
 pub use gap::Gap;
 pub use knowing::{known_words, last_body};
+pub use laws::{
+    limits_are_those_of_the_place, lines_end_where_texts_go_on, queues_are_declared_by_their_lines,
+    words_behind_which_a_line_may_end_fit,
+};
 pub use meaning::{meant_among, meant_at, nearest_first};
 pub use nearness::nearest;
 pub use numbers::Limits;

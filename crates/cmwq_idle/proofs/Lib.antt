@@ -1,1 +1,2 @@
+pub mod FarLemmas
 pub mod StackLemmas

@@ -1,3 +1,4 @@
+pub mod Far
 pub mod Idle
 pub mod Link
 pub mod Links

@@ -1,4 +1,5 @@
 pub mod Checking
 pub mod Fault
 pub mod FaultsTold
+pub mod Starter
 pub mod Starting

@@ -1,7 +1,7 @@
 -- The scenario that a newcomer starts from.
 use Rattle.std.specs.Prelude.{ℕ, List, Option}
 use Rattle.std.specs.Io.KnownBytes.{Appends}
-use Rattle.cmwq_starter.specs.Starter.{first_scenario}
+use Rattle.cmwq_outcome.specs.Starter.{first_scenario}
 use Rattle.cmwq_grammar.specs.Grammar.{Spells}
 
 -- a text that spells the first scenario was written

@@ -1,12 +1,15 @@
-//! What the program tells of how it ended: help, the version, usage faults, verdicts of files, and faults with their exit status.
+//! What the program tells of how it ended: help, the version, usage faults, verdicts of files, and faults with their exit status; and the
+//! scenario that a newcomer starts from.
 #![tactic(auto)]
 
 pub mod fault;
 mod file_verdict;
+mod starter;
 mod starting;
 mod telling;
 
 pub use cmwq_verdict::Look;
 pub use file_verdict::{Judged, check_text, tell_unread};
+pub use starter::{first_scenario_prints, first_text};
 pub use starting::{write_first, write_version};
 pub use telling::{GOOD, USAGE, tell};

@@ -6,8 +6,8 @@ ghost use Rattle.cmwq_command_line.specs.CommandLine.{version_line};
 ghost use Rattle.std.specs.Io.KnownBytes.{Appends};
 ghost use Rattle.std.specs.Prelude.{◌≡◌, ◌↔◌, Err, IfErr, OnOk, false, true};
 
+use crate::first_text;
 use cmwq_command_line::help::VERSION;
-use cmwq_starter::first_text;
 use cmwq_streams::{PlayError, Sink, put_all};
 use std::alloc::Global;
 

@@ -5,8 +5,8 @@ use Rattle.cmwq_types.specs.Contents.{ScenarioContents}
 use Rattle.cmwq_types.specs.First.{by_least, first_below}
 use Rattle.cmwq_types.proofs.FirstLemmas.{by_least-order, first_below-agree}
 use Rattle.cmwq_lists.proofs.CallerLemmas.{first_agree}
-use Rattle.cmwq_phases.specs.Runs.{first_to_end, number_or_0, run_alarm, run_at}
-use Rattle.cmwq_phases.specs.declared.run.Run.{Run}
+use Rattle.cmwq_phased.specs.Runs.{first_to_end, number_or_0, run_alarm, run_at}
+use Rattle.cmwq_phased.specs.declared.run.Run.{Run}
 use Rattle.cmwq_phased.specs.Indexes.{AreTimed}
 use Rattle.cmwq_phased.specs.PhasedContents.{end_of, if_ends_by}
 use Rattle.cmwq_timers.specs.Alarms.{alarm_at, first_to_ring, if_rings_by, ring_of, tick_or_0}

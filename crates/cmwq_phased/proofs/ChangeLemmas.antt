@@ -8,8 +8,8 @@ use Rattle.cmwq_types.specs.Scenario.{flags_at, is_unbound, queue_of}
 use Rattle.cmwq_types.specs.Setting.{IsSetting}
 use Rattle.cmwq_types.proofs.FirstLemmas.{count_below-agree}
 use Rattle.cmwq_lists.specs.ListContents.{ListContents, Rank, no_ranks, with_rank}
-use Rattle.cmwq_phases.specs.Runs.{HasOwnStamp, is_awake, run_alarm, run_at}
-use Rattle.cmwq_phases.specs.declared.run.Run.{Run}
+use Rattle.cmwq_phased.specs.Runs.{HasOwnStamp, is_awake, run_alarm, run_at}
+use Rattle.cmwq_phased.specs.declared.run.Run.{Run}
 use Rattle.cmwq_phased.specs.Counted.{AreCounted, no_counts}
 use Rattle.cmwq_phased.specs.Indexed.{AreIndexed}
 use Rattle.cmwq_phased.specs.Indexes.{AreLined, AreRuns, AreTimed, awake_class, awake_classes, busy_class, busy_classes, rank_of, rescued_class, rescued_classes, running_class, running_classes, standing_of, stands_by}

@@ -1,7 +1,7 @@
 -- What a tally answers at most, and what it asks of a change.
 use Rattle.std.proofs.Common.{◌≡◌, ℕ, ◌<◌, ◌≤◌, List, length, Option, Some, None, IfSome, arith, subst}
 use Rattle.cmwq_types.specs.Contents.{ScenarioContents}
-use Rattle.cmwq_phases.specs.declared.run.Run.{Run}
+use Rattle.cmwq_phased.specs.declared.run.Run.{Run}
 use Rattle.cmwq_phased.specs.PhasedContents.{PhasedContents}
 use Rattle.cmwq_tally.specs.TallyContents.{IsTallied, count_of}
 use Rattle.cmwq_tally.proofs.TallyLemmas.{each_is_counted, few_are_counted}

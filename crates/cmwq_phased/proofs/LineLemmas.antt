@@ -8,10 +8,10 @@ use Rattle.cmwq_types.specs.Scenario.{is_unbound}
 use Rattle.cmwq_lists.specs.ListContents.{ListContents, first_in, is_in, is_of, order_in}
 use Rattle.cmwq_lists.specs.Ranks.{Holds}
 use Rattle.cmwq_lists.proofs.CallerLemmas.{firsts_are_of_the_test, two_keys_are_one}
-use Rattle.cmwq_phases.specs.Runs.{first_in_line, first_rested, is_awake, is_in_line, is_ready, is_rested, run_at, run_sleep, run_stamp, with_run}
-use Rattle.cmwq_phases.specs.declared.run.Phase.{Phase}
-use Rattle.cmwq_phases.specs.declared.run.Phase.TheVariants.{Ready, Held, Burning, Asleep, Slept}
-use Rattle.cmwq_phases.specs.declared.run.Run.{Run}
+use Rattle.cmwq_phased.specs.Runs.{first_in_line, first_rested, is_awake, is_in_line, is_ready, is_rested, run_at, run_sleep, run_stamp, with_run}
+use Rattle.cmwq_phased.specs.declared.run.Phase.{Phase}
+use Rattle.cmwq_phased.specs.declared.run.Phase.TheVariants.{Ready, Held, Burning, Asleep, Slept}
+use Rattle.cmwq_phased.specs.declared.run.Run.{Run}
 use Rattle.cmwq_phased.specs.Indexes.{AreLined, AreRuns, rank_of, standing_of, stands_by}
 use Rattle.cmwq_phased.specs.declared.pools.TheConstants.{MAX_POOLS}
 

@@ -4,7 +4,7 @@ use Rattle.cmwq_types.specs.Contents.{ScenarioContents}
 use Rattle.cmwq_phased.specs.Indexes.{awake_classes, busy_classes, rescued_classes, running_classes}
 use Rattle.cmwq_phased.specs.declared.counts.Counts.{Counts}
 use Rattle.cmwq_phased.specs.declared.pools.TheConstants.{MAX_POOLS}
-use Rattle.cmwq_phases.specs.declared.run.Run.{Run}
+use Rattle.cmwq_phased.specs.declared.run.Run.{Run}
 use Rattle.cmwq_tally.specs.TallyContents.{IsTallied}
 
 -- for so many queues, of whose works none runs

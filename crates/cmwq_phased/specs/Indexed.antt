@@ -5,7 +5,7 @@ use Rattle.cmwq_lists.specs.ListContents.{ListContents}
 use Rattle.cmwq_phased.specs.Counted.{AreCounted}
 use Rattle.cmwq_phased.specs.Indexes.{AreLined, AreRuns, AreTimed}
 use Rattle.cmwq_phased.specs.declared.counts.Counts.{Counts}
-use Rattle.cmwq_phases.specs.declared.run.Run.{Run}
+use Rattle.cmwq_phased.specs.declared.run.Run.{Run}
 
 -- runs, lines, alarms and counts, in step
 pub record AreIndexed (S : ScenarioContents) (runs : List (Option Run)) (lines : ListContents) (alarms : List (Option ℕ)) (counts : Counts) : Type 0 where

@@ -9,10 +9,10 @@ use Rattle.cmwq_lists.specs.ListContents.{ListContents, Rank, is_in, order_at, r
 use Rattle.cmwq_phased.specs.PhasedContents.{HaveOwnStamps}
 use Rattle.cmwq_phased.specs.declared.lines.Standing.{Standing}
 use Rattle.cmwq_phased.specs.declared.pools.TheConstants.{MAX_POOLS}
-use Rattle.cmwq_phases.specs.Runs.{is_awake, run_alarm, run_at}
-use Rattle.cmwq_phases.specs.declared.run.Phase.{Phase}
-use Rattle.cmwq_phases.specs.declared.run.Phase.TheVariants.{Ready, Held, Burning, Asleep, Slept}
-use Rattle.cmwq_phases.specs.declared.run.Run.{Run}
+use Rattle.cmwq_phased.specs.Runs.{is_awake, run_alarm, run_at}
+use Rattle.cmwq_phased.specs.declared.run.Phase.{Phase}
+use Rattle.cmwq_phased.specs.declared.run.Phase.TheVariants.{Ready, Held, Burning, Asleep, Slept}
+use Rattle.cmwq_phased.specs.declared.run.Run.{Run}
 use Rattle.cmwq_timers.specs.Alarms.{alarm_at}
 
 -- Lines: the list of a pool's number holds its line, by stamp; behind these stand the lists of those whose sleep is over, by

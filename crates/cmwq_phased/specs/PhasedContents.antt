@@ -1,8 +1,8 @@
 -- What a contract sees of `PhasedWorks`: a scenario, and how each of its works runs. Nothing of lines, alarms and counts.
 use Rattle.std.specs.Prelude.{◌≡◌, ℕ, List, Option, Some, None, if◌then◌else◌, nat_le}
 use Rattle.cmwq_types.specs.Contents.{ScenarioContents}
-use Rattle.cmwq_phases.specs.Runs.{number_or_0, run_alarm, run_at}
-use Rattle.cmwq_phases.specs.declared.run.Run.{Run}
+use Rattle.cmwq_phased.specs.Runs.{number_or_0, run_alarm, run_at}
+use Rattle.cmwq_phased.specs.declared.run.Run.{Run}
 
 pub record PhasedContents : Type 0 where
   pub scenario : ScenarioContents

@@ -1,11 +1,11 @@
 //! The alarms of running works: of those whom time alone ends.
 ghost use Rattle.cmwq_phased.specs.Indexes.{AreTimed};
-ghost use Rattle.cmwq_phases.specs.Runs.{alarm_in, run_alarm, run_at};
+ghost use Rattle.cmwq_phased.specs.Runs.{alarm_in, run_alarm, run_at};
 ghost use Rattle.cmwq_timers.specs.Alarms.{alarm_at};
 ghost use Rattle.cmwq_types.specs.declared.limits.TheConstants.{MAX_WORKS};
 ghost use Rattle.std.specs.Prelude.{◌≡◌, ◌<◌, None, length, slice_set};
 
-use cmwq_phases::{Phase, Run};
+use crate::{Phase, Run};
 use cmwq_timers::Alarms;
 use cmwq_types::WorkId;
 

@@ -1,11 +1,11 @@
 //! The classes in which running works are counted.
 ghost use Rattle.cmwq_phased.specs.Indexes.{awake_class, busy_class, rescued_class, running_class};
 ghost use Rattle.cmwq_phased.specs.declared.pools.TheConstants.{MAX_POOLS};
-ghost use Rattle.cmwq_phases.specs.Runs.{is_awake};
+ghost use Rattle.cmwq_phased.specs.Runs.{is_awake};
 ghost use Rattle.std.specs.Prelude.{◌≡◌, ◌+◌, ◌*◌};
 
 use crate::pools::MAX_POOLS;
-use cmwq_phases::{Phase, Run};
+use crate::{Phase, Run};
 use cmwq_types::RESCUER;
 
 /// The class of a queue's works that run in a pool.

@@ -1,13 +1,13 @@
 //! How many running works stand in each class.
 ghost use Rattle.cmwq_phased.specs.Counted.{AreCounted, no_counts};
 ghost use Rattle.cmwq_phased.specs.Indexes.{AreRuns};
-ghost use Rattle.cmwq_phases.specs.Runs.{run_at};
+ghost use Rattle.cmwq_phased.specs.Runs.{run_at};
 ghost use Rattle.cmwq_types.specs.Scenario.{flags_at, queue_of};
 ghost use Rattle.std.specs.Prelude.{◌≡◌, ◌<◌, IfOk, Some, length, slice_set};
 
+use crate::Run;
 use crate::classes::{awake_class, busy_class, is_awake, rescued_class, running_class};
 use crate::pools::MAX_POOLS;
-use cmwq_phases::Run;
 use cmwq_tally::Tally;
 use cmwq_types::{Flags, NoMemory, Scenario};
 use std::alloc::Global;

@@ -2,15 +2,15 @@
 ghost use Rattle.cmwq_lists.specs.ListContents.{IsApart, rank_at, with_rank};
 ghost use Rattle.cmwq_phased.specs.Indexes.{AreLined, AreRuns, IsApartFromOthers, rank_of, standing_of, stands_by};
 ghost use Rattle.cmwq_phased.specs.declared.pools.TheConstants.{MAX_POOLS};
-ghost use Rattle.cmwq_phases.specs.Runs.{HasOwnStamp, is_ready, run_at};
+ghost use Rattle.cmwq_phased.specs.Runs.{HasOwnStamp, is_ready, run_at};
 ghost use Rattle.cmwq_types.specs.Setting.{IsSetting};
 ghost use Rattle.cmwq_types.specs.declared.limits.TheConstants.{MAX_WORKS};
 ghost use Rattle.std.specs.Prelude.{◌≡◌, ◌+◌, ◌<◌, IfSome, IsTrue, None, Some, length, slice_set};
 
 use crate::classes::is_awake;
 use crate::pools::MAX_POOLS;
+use crate::{Phase, Run};
 use cmwq_lists::{Lists, Node};
-use cmwq_phases::{Phase, Run};
 use cmwq_types::{Scenario, WorkId};
 
 /// A place in one of the lists: which one, and the number that orders it there.

@@ -1,18 +1,18 @@
 //! The running works, with their indexes.
 ghost use Rattle.cmwq_phased.specs.PhasedContents.{HaveOwnStamps, end_of, if_ends_by};
 ghost use Rattle.cmwq_phased.specs.declared.pools.TheConstants.{MAX_POOLS};
-ghost use Rattle.cmwq_phases.specs.Runs.{HasOwnStamp, awake_in, first_in_line, first_rested, first_to_end, freezable_running, rescued_of, run_at, running_in};
+ghost use Rattle.cmwq_phased.specs.Runs.{HasOwnStamp, awake_in, first_in_line, first_rested, first_to_end, freezable_running, rescued_of, run_at, running_in};
 ghost use Rattle.cmwq_types.specs.Setting.{IsSetting};
 ghost use Rattle.cmwq_types.specs.declared.limits.TheConstants.{MAX_WORKS};
 ghost use Rattle.std.specs.Prelude.{◌≡◌, ◌<◌, ◌≤◌, IfOk, IfSome, None, Some, length, replicate, slice_set};
 
+use crate::Run;
 use crate::alarms::set_alarm;
 use crate::classes::class_in;
 use crate::counts::Counts;
 use crate::lines::{line_up, line_up_in_pool, rested_list};
 use crate::pools::MAX_POOLS;
 use cmwq_lists::Lists;
-use cmwq_phases::Run;
 use cmwq_timers::Alarms;
 use cmwq_types::{NoMemory, Scenario, filled};
 use std::alloc::Global;

@@ -1,5 +1,6 @@
 pub mod CommandLemmas
 pub mod ImageLemmas
+pub mod PartLemmas
 pub mod RepeatingLemmas
 pub mod RunLemmas
 pub mod SessionLemmas

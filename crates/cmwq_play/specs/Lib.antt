@@ -1,4 +1,5 @@
 pub mod Commands
+pub mod Framing
 pub mod Images
 pub mod PlayTexts
 pub mod Repeating

@@ -1,6 +1,8 @@
-//! The commands of the program as functions over readers and writers.
+//! The commands of the program as functions over readers and writers, and tellers, which tell something of a run along with it, before it and
+//! behind it.
 #![tactic(auto)]
 
+mod framed;
 mod images;
 mod listing_text;
 mod reading;
@@ -10,6 +12,7 @@ mod session;
 mod teller;
 
 pub use cmwq_streams::{BlockWriter, Marked, PlayError, Sink, Source, put_all};
+pub use framed::{Framed, load_and_frame};
 pub use images::{from_image, to_image};
 pub use listing_text::{list_text, write_listing};
 pub use reading::{empty_chunk, read_some, read_text, read_whole};

@@ -1,17 +1,22 @@
 //! What the instruction table counts and seeks in a machine's state, by scans over whatever can be asked of it, and what it refuses an
-//! instruction for at once. It is written once, for machines and for whoever looks at one.
+//! instruction for at once; and the vectors of a start state, of a copy and of a look. It is written once, for machines and for whoever looks at
+//! one.
 #![tactic(auto)]
 
+mod beginning;
 mod conditions;
 mod flushes;
+mod looking;
 mod pool_moves_sought;
 mod refusing;
 mod sought;
 mod tally;
 mod workers;
 
+pub use beginning::{copied_flushes, declared_max};
 pub use conditions::{first_at_work, is_at_work, is_free, is_met, is_question, is_quiet};
 pub use flushes::{flush_target, is_done};
+pub use looking::{entries, idle_workers};
 pub use pool_moves_sought::{is_spent, next_move, ready_head};
 pub use refusing::{operands, refused_at_once};
 pub use sought::{Sought, fires_before, first, pending_before, running_before, wakes_before};

@@ -3,8 +3,8 @@ ghost use Rattle.cmwq_table.specs.Moves.{begun};
 ghost use Rattle.cmwq_table.specs.State.{seat};
 ghost use Rattle.std.specs.Prelude.{◌≡◌, slice_set};
 
-use cmwq_looks::{copied_flushes, declared_max, entries, idle_workers};
 use cmwq_parts::{Parts, PoolSet};
+use cmwq_reads::{copied_flushes, declared_max, entries, idle_workers};
 use cmwq_table::{FlushTarget, Pending, Reads, Running, View};
 use cmwq_types::{MAX_WORKERS, Mode, NoMemory, Place, RESCUER, Scenario, filled};
 use std::alloc::Global;

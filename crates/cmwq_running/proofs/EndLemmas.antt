@@ -12,11 +12,11 @@ use Rattle.cmwq_types.specs.declared.reply.Mode.{Mode}
 use Rattle.cmwq_types.proofs.FirstLemmas.{by_least-order, first_below-is_first}
 use Rattle.cmwq_table.specs.Counts.{is_some_work}
 use Rattle.cmwq_phased.specs.PhasedContents.{end_of, if_ends_by}
-use Rattle.cmwq_phases.specs.Phases.{IsTimely, left_in, mode_in, shown, shown_all}
-use Rattle.cmwq_phases.specs.Runs.{alarm_in, first_to_end, is_awake, number_or_0, run_alarm, run_at}
-use Rattle.cmwq_phases.specs.declared.run.Phase.{Phase}
-use Rattle.cmwq_phases.specs.declared.run.Phase.TheVariants.{Ready, Held, Burning, Asleep, Slept}
-use Rattle.cmwq_phases.specs.declared.run.Run.{Run}
+use Rattle.cmwq_phased.specs.Phases.{IsTimely, left_in, mode_in, shown, shown_all}
+use Rattle.cmwq_phased.specs.Runs.{alarm_in, first_to_end, is_awake, number_or_0, run_alarm, run_at}
+use Rattle.cmwq_phased.specs.declared.run.Phase.{Phase}
+use Rattle.cmwq_phased.specs.declared.run.Phase.TheVariants.{Ready, Held, Burning, Asleep, Slept}
+use Rattle.cmwq_phased.specs.declared.run.Run.{Run}
 use Rattle.cmwq_running.specs.Heads.{AreHeaded, AreOnTime, AreTimely, IsOnTime, IsStill, NoneEndsBefore, alarm_count, ended, first_awake, in_phase, may_burn}
 use Rattle.cmwq_running.proofs.AlikeLemmas.{fewer_below}
 use Rattle.cmwq_running.proofs.HeadLemmas.{IsSwap, at_changed, at_other, still_going, still_heading, swap_go, swap_have_heads}

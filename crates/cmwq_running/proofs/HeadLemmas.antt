@@ -10,11 +10,11 @@ use Rattle.cmwq_types.specs.Scenario.{is_high, is_unbound}
 use Rattle.cmwq_types.proofs.FirstLemmas.{by_least-order}
 use Rattle.cmwq_table.specs.Counts.{is_some_work}
 use Rattle.cmwq_phased.specs.PhasedContents.{HaveOwnStamps, PhasedContents}
-use Rattle.cmwq_phases.specs.Phases.{IsTimely}
-use Rattle.cmwq_phases.specs.Runs.{is_awake, run_at, run_stamp, with_run}
-use Rattle.cmwq_phases.specs.declared.run.Phase.{Phase}
-use Rattle.cmwq_phases.specs.declared.run.Phase.TheVariants.{Ready, Held, Burning, Asleep, Slept}
-use Rattle.cmwq_phases.specs.declared.run.Run.{Run}
+use Rattle.cmwq_phased.specs.Phases.{IsTimely}
+use Rattle.cmwq_phased.specs.Runs.{is_awake, run_at, run_stamp, with_run}
+use Rattle.cmwq_phased.specs.declared.run.Phase.{Phase}
+use Rattle.cmwq_phased.specs.declared.run.Phase.TheVariants.{Ready, Held, Burning, Asleep, Slept}
+use Rattle.cmwq_phased.specs.declared.run.Run.{Run}
 use Rattle.cmwq_running.specs.Heads.{AreKept, ComesLast, GoIn, HaveHeads, IfBeside, IsBeside, IsGoing, IsHeading, IsStill, first_awake, may_burn}
 use Rattle.cmwq_running.proofs.AlikeLemmas.{first_alike, first_is, first_of, none_alike}
 

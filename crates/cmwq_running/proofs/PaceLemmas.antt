@@ -9,11 +9,11 @@ use Rattle.cmwq_types.specs.Contents.{ScenarioContents}
 use Rattle.cmwq_types.specs.Scenario.{is_high, is_unbound}
 use Rattle.cmwq_table.specs.Counts.{is_some_work}
 use Rattle.cmwq_phased.specs.PhasedContents.{HaveOwnStamps}
-use Rattle.cmwq_phases.specs.Phases.{left_in, mode_in, shown, shown_all}
-use Rattle.cmwq_phases.specs.Runs.{HasOwnStamp, first_in_line, is_awake, run_at, run_stamp}
-use Rattle.cmwq_phases.specs.declared.run.Phase.{Phase}
-use Rattle.cmwq_phases.specs.declared.run.Phase.TheVariants.{Ready, Held, Burning, Asleep, Slept}
-use Rattle.cmwq_phases.specs.declared.run.Run.{Run}
+use Rattle.cmwq_phased.specs.Phases.{left_in, mode_in, shown, shown_all}
+use Rattle.cmwq_phased.specs.Runs.{HasOwnStamp, first_in_line, is_awake, run_at, run_stamp}
+use Rattle.cmwq_phased.specs.declared.run.Phase.{Phase}
+use Rattle.cmwq_phased.specs.declared.run.Phase.TheVariants.{Ready, Held, Burning, Asleep, Slept}
+use Rattle.cmwq_phased.specs.declared.run.Run.{Run}
 use Rattle.cmwq_running.specs.Heads.{GoIn, HaveHeads, IsBeside, IsGoing, IsHeading, first_awake, in_phase, may_burn, paced, paced_run}
 use Rattle.cmwq_running.proofs.AlikeLemmas.{first_of}
 use Rattle.cmwq_running.proofs.HeadLemmas.{IsSwap, in_pool, is_work, swap_go, swap_have_heads}

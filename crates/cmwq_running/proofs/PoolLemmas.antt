@@ -9,9 +9,9 @@ use Rattle.cmwq_types.specs.Scenario.{flags_at, is_unbound, queue_of}
 use Rattle.cmwq_types.proofs.FirstLemmas.{by_least-order, by_least_two-order, count_below-agree}
 use Rattle.cmwq_parts.specs.PoolSets.{has_pool}
 use Rattle.cmwq_parts.specs.declared.pool_set.PoolSet.{PoolSet}
-use Rattle.cmwq_phases.specs.Runs.{awake_in, first_in_line, first_rested, is_awake, is_in_line, is_ready, is_rested, rescued_of, run_at, run_sleep, run_stamp, with_run}
-use Rattle.cmwq_phases.specs.declared.run.Phase.{Phase}
-use Rattle.cmwq_phases.specs.declared.run.Run.{Run}
+use Rattle.cmwq_phased.specs.Runs.{awake_in, first_in_line, first_rested, is_awake, is_in_line, is_ready, is_rested, rescued_of, run_at, run_sleep, run_stamp, with_run}
+use Rattle.cmwq_phased.specs.declared.run.Phase.{Phase}
+use Rattle.cmwq_phased.specs.declared.run.Run.{Run}
 use Rattle.cmwq_running.specs.Heads.{if_run_ready, in_phase, ready_run}
 use Rattle.cmwq_running.specs.Pools.{AreAlikeIn, AreAlikeOutside, IsAlikeIn}
 use Rattle.cmwq_running.proofs.AlikeLemmas.{first_alike, first_of}

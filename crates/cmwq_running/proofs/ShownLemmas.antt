@@ -10,11 +10,11 @@ use Rattle.cmwq_table.specs.Counts.{first_ready, first_runnable, first_slept, ha
 use Rattle.cmwq_table.specs.State.{State, running_at}
 use Rattle.cmwq_table.specs.declared.state.Running.{Running}
 use Rattle.cmwq_phased.specs.PhasedContents.{PhasedContents}
-use Rattle.cmwq_phases.specs.Phases.{IsTimely, left_in, mode_in, shown, shown_all}
-use Rattle.cmwq_phases.specs.Runs.{awake_in, first_in_line, first_rested, freezable_running, is_awake, is_in_line, is_ready, is_rested, rescued_of, run_at, run_sleep, run_stamp, running_in, with_run}
-use Rattle.cmwq_phases.specs.declared.run.Phase.{Phase}
-use Rattle.cmwq_phases.specs.declared.run.Phase.TheVariants.{Ready, Held, Burning, Asleep, Slept}
-use Rattle.cmwq_phases.specs.declared.run.Run.{Run}
+use Rattle.cmwq_phased.specs.Phases.{IsTimely, left_in, mode_in, shown, shown_all}
+use Rattle.cmwq_phased.specs.Runs.{awake_in, first_in_line, first_rested, freezable_running, is_awake, is_in_line, is_ready, is_rested, rescued_of, run_at, run_sleep, run_stamp, running_in, with_run}
+use Rattle.cmwq_phased.specs.declared.run.Phase.{Phase}
+use Rattle.cmwq_phased.specs.declared.run.Phase.TheVariants.{Ready, Held, Burning, Asleep, Slept}
+use Rattle.cmwq_phased.specs.declared.run.Run.{Run}
 use Rattle.cmwq_running.specs.Heads.{AreTimely, first_awake, if_run_ready, ready_run}
 use Rattle.cmwq_running.specs.RunningContents.{seen}
 use Rattle.cmwq_running.proofs.AlikeLemmas.{first_alike, first_of}

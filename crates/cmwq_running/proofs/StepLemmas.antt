@@ -14,11 +14,11 @@ use Rattle.cmwq_table.specs.Counts.{first_slept, is_some_work, ready_head}
 use Rattle.cmwq_table.specs.State.{running_at}
 use Rattle.cmwq_table.specs.declared.state.Running.{Running}
 use Rattle.cmwq_phased.specs.PhasedContents.{HaveOwnStamps, PhasedContents}
-use Rattle.cmwq_phases.specs.Phases.{IsTimely, left_in, mode_in, shown, shown_all}
-use Rattle.cmwq_phases.specs.Runs.{HasOwnStamp, first_in_line, first_rested, is_awake, is_ready, is_rested, run_at, run_sleep, run_stamp, with_run}
-use Rattle.cmwq_phases.specs.declared.run.Phase.{Phase}
-use Rattle.cmwq_phases.specs.declared.run.Phase.TheVariants.{Ready, Held, Burning, Asleep, Slept}
-use Rattle.cmwq_phases.specs.declared.run.Run.{Run}
+use Rattle.cmwq_phased.specs.Phases.{IsTimely, left_in, mode_in, shown, shown_all}
+use Rattle.cmwq_phased.specs.Runs.{HasOwnStamp, first_in_line, first_rested, is_awake, is_ready, is_rested, run_at, run_sleep, run_stamp, with_run}
+use Rattle.cmwq_phased.specs.declared.run.Phase.{Phase}
+use Rattle.cmwq_phased.specs.declared.run.Phase.TheVariants.{Ready, Held, Burning, Asleep, Slept}
+use Rattle.cmwq_phased.specs.declared.run.Run.{Run}
 use Rattle.cmwq_running.specs.Heads.{AreHeaded, AreKept, AreTimely, ComesLast, IsGoing, IsHeading, asleep_until, first_awake, may_burn, paced, with_left}
 use Rattle.cmwq_running.specs.RunningContents.{onward_run, ready_as, seen, state_of, woken_run}
 use Rattle.cmwq_running.proofs.HeadLemmas.{IsSwap, at_changed, at_other, is_work, swap_go, swap_have_heads}

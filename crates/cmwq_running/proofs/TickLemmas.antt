@@ -12,11 +12,11 @@ use Rattle.cmwq_table.specs.Moves.{as_move, burned, next_move, one_less, start_f
 use Rattle.cmwq_table.specs.State.{State, pending_at, running_at}
 use Rattle.cmwq_table.specs.declared.state.Running.{Running}
 use Rattle.cmwq_phased.specs.PhasedContents.{PhasedContents}
-use Rattle.cmwq_phases.specs.Phases.{IsTimely, left_in, mode_in, shown, shown_all}
-use Rattle.cmwq_phases.specs.Runs.{alarm_in, run_alarm, run_at}
-use Rattle.cmwq_phases.specs.declared.run.Phase.{Phase}
-use Rattle.cmwq_phases.specs.declared.run.Phase.TheVariants.{Ready, Held, Burning, Asleep, Slept}
-use Rattle.cmwq_phases.specs.declared.run.Run.{Run}
+use Rattle.cmwq_phased.specs.Phases.{IsTimely, left_in, mode_in, shown, shown_all}
+use Rattle.cmwq_phased.specs.Runs.{alarm_in, run_alarm, run_at}
+use Rattle.cmwq_phased.specs.declared.run.Phase.{Phase}
+use Rattle.cmwq_phased.specs.declared.run.Phase.TheVariants.{Ready, Held, Burning, Asleep, Slept}
+use Rattle.cmwq_phased.specs.declared.run.Run.{Run}
 use Rattle.cmwq_running.specs.Heads.{AreHeaded, AreKept, AreOnTime, AreTimely, GoIn, HaveHeads, IsGoing, IsHeading, IsOnTime, NoneEndsBefore, first_awake, may_burn}
 use Rattle.cmwq_running.specs.RunningContents.{RunningContents, seen}
 use Rattle.cmwq_parts.specs.PoolSets.{has_pool}

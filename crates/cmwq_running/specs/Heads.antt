@@ -5,11 +5,11 @@ use Rattle.cmwq_types.specs.First.{count_below, first_below, by_least}
 use Rattle.cmwq_types.specs.Scenario.{is_high, is_unbound}
 use Rattle.cmwq_table.specs.Counts.{is_some_work}
 use Rattle.cmwq_phased.specs.PhasedContents.{PhasedContents}
-use Rattle.cmwq_phases.specs.Phases.{IsTimely}
-use Rattle.cmwq_phases.specs.Runs.{first_in_line, is_awake, is_ready, run_alarm, run_at, run_stamp, with_run}
-use Rattle.cmwq_phases.specs.declared.run.Phase.{Phase}
-use Rattle.cmwq_phases.specs.declared.run.Phase.TheVariants.{Ready, Held, Burning, Asleep, Slept}
-use Rattle.cmwq_phases.specs.declared.run.Run.{Run}
+use Rattle.cmwq_phased.specs.Phases.{IsTimely}
+use Rattle.cmwq_phased.specs.Runs.{first_in_line, is_awake, is_ready, run_alarm, run_at, run_stamp, with_run}
+use Rattle.cmwq_phased.specs.declared.run.Phase.{Phase}
+use Rattle.cmwq_phased.specs.declared.run.Phase.TheVariants.{Ready, Held, Burning, Asleep, Slept}
+use Rattle.cmwq_phased.specs.declared.run.Run.{Run}
 
 -- the first runnable work of the pool, at whatever time
 abbrev pub first_awake : ScenarioContents → List (Option Run) → ℕ → Option ℕ

@@ -3,8 +3,8 @@ use Rattle.std.specs.Prelude.{◌≡◌, ℕ, ◌<◌, false, if◌then◌else�
 use Rattle.cmwq_types.specs.declared.limits.TheConstants.{RESCUER}
 use Rattle.cmwq_parts.specs.PoolSets.{has_pool}
 use Rattle.cmwq_parts.specs.declared.pool_set.PoolSet.{PoolSet}
-use Rattle.cmwq_phases.specs.Runs.{run_at, with_run}
-use Rattle.cmwq_phases.specs.declared.run.Run.{Run}
+use Rattle.cmwq_phased.specs.Runs.{run_at, with_run}
+use Rattle.cmwq_phased.specs.declared.run.Run.{Run}
 
 -- the run, if it is one of the pool
 abbrev pub run_in : ℕ → Option Run → Option Run

@@ -5,10 +5,10 @@ use Rattle.cmwq_types.specs.declared.reply.Mode.TheVariants.{Runnable}
 use Rattle.cmwq_table.specs.State.{State}
 use Rattle.cmwq_table.specs.declared.state.Running.{Running}
 use Rattle.cmwq_phased.specs.PhasedContents.{PhasedContents}
-use Rattle.cmwq_phases.specs.Phases.{shown_all}
-use Rattle.cmwq_phases.specs.declared.run.Phase.{Phase}
-use Rattle.cmwq_phases.specs.declared.run.Phase.TheVariants.{Ready}
-use Rattle.cmwq_phases.specs.declared.run.Run.{Run}
+use Rattle.cmwq_phased.specs.Phases.{shown_all}
+use Rattle.cmwq_phased.specs.declared.run.Phase.{Phase}
+use Rattle.cmwq_phased.specs.declared.run.Phase.TheVariants.{Ready}
+use Rattle.cmwq_phased.specs.declared.run.Run.{Run}
 
 pub record RunningContents : Type 0 where
   pub scenario : ScenarioContents

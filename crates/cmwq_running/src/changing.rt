@@ -1,6 +1,6 @@
 //! A work begins, wakes, falls asleep or ends.
-ghost use Rattle.cmwq_phases.specs.Phases.{IsTimely, shown, shown_all};
-ghost use Rattle.cmwq_phases.specs.Runs.{HasOwnStamp, is_rested, run_at};
+ghost use Rattle.cmwq_phased.specs.Phases.{IsTimely, shown, shown_all};
+ghost use Rattle.cmwq_phased.specs.Runs.{HasOwnStamp, is_rested, run_at};
 ghost use Rattle.cmwq_running.specs.Heads.{AreKept, ComesLast, IsStill, asleep_until};
 ghost use Rattle.cmwq_running.specs.RunningContents.{first_run, onward_run, ready_as, roused, seen, state_of, woken_run};
 ghost use Rattle.cmwq_table.specs.Counts.{first_slept, ready_head};
@@ -11,8 +11,7 @@ ghost use Rattle.cmwq_types.specs.declared.reply.Mode.TheVariants.{Asleep};
 ghost use Rattle.std.specs.Prelude.{◌≡◌, ◌<◌, ◌+◌, ℕ, IfSome, None, Some, is_some, length, slice_set, true};
 
 use crate::pacing::{balance, may_burn, paced, with_left};
-use cmwq_phased::PhasedWorks;
-use cmwq_phases::{Phase, Run};
+use cmwq_phased::{Phase, PhasedWorks, Run};
 use cmwq_table::Running;
 
 /// Begins an instance of a work of which none runs, with no ticks left. If it is runnable, it stands behind all others of its pool.

@@ -1,15 +1,14 @@
 //! Burns and sleeps end with time.
-ghost use Rattle.cmwq_phases.specs.Phases.{shown_all};
+ghost use Rattle.cmwq_phased.specs.Phases.{shown_all};
 ghost use Rattle.cmwq_phased.specs.PhasedContents.{HaveOwnStamps};
-ghost use Rattle.cmwq_phases.specs.Runs.{first_to_end, run_at};
+ghost use Rattle.cmwq_phased.specs.Runs.{first_to_end, run_at};
 ghost use Rattle.cmwq_running.specs.Heads.{AreHeaded, AreOnTime, AreTimely, NoneEndsBefore, alarm_count, ended, in_phase};
 ghost use Rattle.cmwq_running.specs.Pools.{AreAlikeIn, AreAlikeOutside};
 ghost use Rattle.cmwq_running.specs.RunningContents.{seen};
 ghost use Rattle.std.specs.Prelude.{◌≡◌, ◌≢◌, ◌<◌, ◌≤◌, ◌+◌, ℕ, IfSome, None, Some, length, slice_set};
 
 use cmwq_parts::PoolSet;
-use cmwq_phased::PhasedWorks;
-use cmwq_phases::{Phase, Run};
+use cmwq_phased::{Phase, PhasedWorks, Run};
 
 /// Ends the burns and sleeps that end by this time, and answers in which pools some did. Nothing of it shows.
 #[inline(always)]

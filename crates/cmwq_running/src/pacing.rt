@@ -1,14 +1,13 @@
 //! Who has his CPU: the heads of a CPU's high pool, else those of its normal pool, and all runnable works of the unbound pools.
 ghost use Rattle.cmwq_phased.specs.declared.pools.TheConstants.{MAX_POOLS};
-ghost use Rattle.cmwq_phases.specs.Phases.{IsTimely, shown_all};
-ghost use Rattle.cmwq_phases.specs.Runs.{is_ready, run_at, with_run};
+ghost use Rattle.cmwq_phased.specs.Phases.{IsTimely, shown_all};
+ghost use Rattle.cmwq_phased.specs.Runs.{is_ready, run_at, with_run};
 ghost use Rattle.cmwq_running.specs.Heads.{AreTimely, GoIn, HaveHeads, IsBeside, IsEarly, is_out_of_pace, may_burn, paced, paced_run, ready_run, with_left};
 ghost use Rattle.cmwq_types.specs.Scenario.{is_high, is_unbound};
 ghost use Rattle.cmwq_types.specs.declared.limits.TheConstants.{MAX_WORKS};
 ghost use Rattle.std.specs.Prelude.{◌≡◌, ◌<◌, ◌⊎◌, ℕ, IfSome, false, length, slice_set, true};
 
-use cmwq_phased::PhasedWorks;
-use cmwq_phases::{Phase, Run};
+use cmwq_phased::{Phase, PhasedWorks, Run};
 
 /// The phase with so many ticks left, before it is known whether the work may burn.
 #[inline(always)]

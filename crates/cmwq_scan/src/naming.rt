@@ -56,7 +56,7 @@ impl<'t> Named<'t> {
 }
 
 /// A name's bytes in the text, as a key: they go into a hash in one piece.
-#[derive(Clone, Copy, Debug)]
+#[derive(Clone, Copy)]
 struct Key<'t> {
     bytes: &'t [u8],
 }

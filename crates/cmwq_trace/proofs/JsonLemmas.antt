@@ -23,7 +23,7 @@ use Rattle.cmwq_slices.specs.declared.phases.PhaseSlice.{PhaseSlice}
 use Rattle.cmwq_streams.specs.declared.error.PlayError.{PlayError}
 use Rattle.cmwq_events.specs.KernelTasks.{task_name}
 use Rattle.cmwq_play.specs.Telling.{kept_from, told_from}
-use Rattle.cmwq_framed.specs.Framing.{framed_text}
+use Rattle.cmwq_play.specs.Framing.{framed_text}
 use Rattle.cmwq_trace.specs.Json.{all_execution_lines, comma_lines, cpu_process, executed_by, execution_line, execution_lines, instr_lines, is_named, json_text, lines_from, named_by, named_then, naming_line, phase_line, phase_word, run_after, run_begun, slice_line, thread_of, work_names, work_thread}
 use Rattle.cmwq_trace.specs.JsonParts.{all_marked, cpus_behind, ended_text, execution_part, json_closing, json_opening, json_told, keeps_json, marked, marked_behind, naming_front, phase_behind, process_front, slice_front, steady_after, task_part, thread_front, work_behind, works_behind}
 use Rattle.cmwq_trace.specs.declared.json_run.JsonRun.{JsonRun}

@@ -12,7 +12,7 @@ use cmwq_types::Scenario;
 use std::fmt;
 
 /// An execution, and whether it is the first on its thread.
-#[derive(Clone, Copy, Debug)]
+#[derive(Clone, Copy)]
 pub(crate) struct MarkedExecution {
     pub(crate) execution: Execution,
     pub(crate) is_first: bool,

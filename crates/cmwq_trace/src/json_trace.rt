@@ -1,5 +1,5 @@
 //! `trace --json`: from a scenario's text to the trace of its run in the trace event format.
-ghost use Rattle.cmwq_framed.specs.Framing.{IsTextBy, IsTextOfRun};
+ghost use Rattle.cmwq_play.specs.Framing.{IsTextBy, IsTextOfRun};
 ghost use Rattle.cmwq_play.specs.Commands.{Answers, Reads, Writes};
 ghost use Rattle.cmwq_play.specs.PlayTexts.{IsRunFault};
 ghost use Rattle.cmwq_play.specs.Runs.{CanRun};
@@ -13,8 +13,7 @@ use crate::json_head::JsonHead;
 use crate::json_line::EndedLines;
 use crate::json_run::JsonRun;
 use cmwq_core::Core;
-use cmwq_framed::{Framed, load_and_frame};
-use cmwq_play::{Session, Teller, judge, read_text};
+use cmwq_play::{Framed, Session, Teller, judge, load_and_frame, read_text};
 use cmwq_streams::{PlayError, Sink, Source};
 use cmwq_table::{Machine, Reads};
 use cmwq_types::{Instr, Scenario};

@@ -1,7 +1,7 @@
 use Rattle.std.proofs.Common.{List, Option, subst, ℕ}
 use Rattle.std.proofs.lemmas.Option.{IfSome_then}
-use Rattle.cmwq_data_trace.specs.DataTrace.{dat_of_run}
-use Rattle.cmwq_framed.specs.Framing.{IsTextOfRun}
+use Rattle.cmwq_kernel_trace.specs.DataTrace.{dat_of_run}
+use Rattle.cmwq_play.specs.Framing.{IsTextOfRun}
 use Rattle.cmwq_play.specs.Commands.{Answers}
 use Rattle.cmwq_play.specs.PlayTexts.{IsRunFault}
 use Rattle.cmwq_command.proofs.carrying.record.Goals as goal

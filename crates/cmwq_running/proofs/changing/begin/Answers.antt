@@ -2,8 +2,8 @@ use Rattle.std.proofs.Common.{◌<◌, Some, ℕ, length, sym, ap, subst, ◌∙
 use Rattle.std.proofs.lemmas.List.{length-set}
 use Rattle.cmwq_types.specs.Contents.{ScenarioContents}
 use Rattle.cmwq_phased.specs.PhasedContents.{PhasedContents}
-use Rattle.cmwq_phases.specs.Phases.{shown_all}
-use Rattle.cmwq_phases.specs.Runs.{run_at}
+use Rattle.cmwq_phased.specs.Phases.{shown_all}
+use Rattle.cmwq_phased.specs.Runs.{run_at}
 use Rattle.cmwq_running.specs.Heads.{AreTimely, HaveHeads}
 use Rattle.cmwq_running.proofs.HeadLemmas.{balanced, beside_none, change_of, change_have_heads}
 use Rattle.cmwq_running.proofs.ShownLemmas.{length_of_shown, seen_is, shown_set}

@@ -1,8 +1,8 @@
 use Rattle.std.proofs.Common.{Some, set, sym, ap, subst, ◌∙◌}
 use Rattle.cmwq_table.specs.declared.state.Running.{Running}
-use Rattle.cmwq_phases.specs.Phases.{IsTimely, shown, shown_all}
-use Rattle.cmwq_phases.specs.Runs.{HasOwnStamp}
-use Rattle.cmwq_phases.specs.declared.run.Run.{Run}
+use Rattle.cmwq_phased.specs.Phases.{IsTimely, shown, shown_all}
+use Rattle.cmwq_phased.specs.Runs.{HasOwnStamp}
+use Rattle.cmwq_phased.specs.declared.run.Run.{Run}
 use Rattle.cmwq_running.specs.Heads.{ComesLast, IsStill}
 use Rattle.cmwq_running.specs.RunningContents.{first_run, seen}
 use Rattle.cmwq_running.proofs.StepLemmas.{head_ran, newest_last, newest_own}

@@ -1,8 +1,8 @@
 use Rattle.std.proofs.Common.{Some, set, sym, ap, subst, ◌∙◌}
 use Rattle.cmwq_table.specs.declared.state.Running.{Running}
-use Rattle.cmwq_phases.specs.Phases.{shown, shown_all}
-use Rattle.cmwq_phases.specs.Runs.{HasOwnStamp}
-use Rattle.cmwq_phases.specs.declared.run.Run.{Run}
+use Rattle.cmwq_phased.specs.Phases.{shown, shown_all}
+use Rattle.cmwq_phased.specs.Runs.{HasOwnStamp}
+use Rattle.cmwq_phased.specs.declared.run.Run.{Run}
 use Rattle.cmwq_running.specs.RunningContents.{onward_run, seen}
 use Rattle.cmwq_running.proofs.StepLemmas.{asleep_shown, onward_own, ready_head_of, ready_run_is}
 use Rattle.cmwq_running.proofs.changing.fall_asleep.Goals as goal

@@ -1,10 +1,10 @@
 use Rattle.std.proofs.Common.{◌≡◌, Bool, Some, set, sym, ap, subst, ◌∙◌}
 use Rattle.cmwq_table.specs.declared.state.Running.{Running}
 use Rattle.cmwq_phased.specs.PhasedContents.{PhasedContents}
-use Rattle.cmwq_phases.specs.Phases.{IsTimely, shown, shown_all}
-use Rattle.cmwq_phases.specs.Runs.{HasOwnStamp}
-use Rattle.cmwq_phases.specs.declared.run.Phase.{Phase}
-use Rattle.cmwq_phases.specs.declared.run.Run.{Run}
+use Rattle.cmwq_phased.specs.Phases.{IsTimely, shown, shown_all}
+use Rattle.cmwq_phased.specs.Runs.{HasOwnStamp}
+use Rattle.cmwq_phased.specs.declared.run.Phase.{Phase}
+use Rattle.cmwq_phased.specs.declared.run.Run.{Run}
 use Rattle.cmwq_running.specs.Heads.{AreKept, may_burn, paced, with_left}
 use Rattle.cmwq_running.specs.RunningContents.{onward_run}
 use Rattle.cmwq_running.proofs.ShownLemmas.{seen_is, shown_set}

@@ -1,5 +1,5 @@
 use Rattle.std.proofs.Common.{Some, ap, ◌∙◌}
-use Rattle.cmwq_phases.specs.declared.run.Phase.{Phase}
+use Rattle.cmwq_phased.specs.declared.run.Phase.{Phase}
 use Rattle.cmwq_running.specs.RunningContents.{roused}
 use Rattle.cmwq_running.proofs.StepLemmas.{newest_last, newest_own}
 use Rattle.cmwq_running.proofs.changing.rouse.Goals as goal

@@ -1,8 +1,8 @@
 use Rattle.std.proofs.Common.{◌≡◌, true, Option, Some, set, sym, ap, subst, ◌∙◌}
 use Rattle.cmwq_table.specs.declared.state.Running.{Running}
-use Rattle.cmwq_phases.specs.Phases.{shown_all}
-use Rattle.cmwq_phases.specs.Runs.{is_rested, run_at}
-use Rattle.cmwq_phases.specs.declared.run.Run.{Run}
+use Rattle.cmwq_phased.specs.Phases.{shown_all}
+use Rattle.cmwq_phased.specs.Runs.{is_rested, run_at}
+use Rattle.cmwq_phased.specs.declared.run.Run.{Run}
 use Rattle.cmwq_running.specs.RunningContents.{seen}
 use Rattle.cmwq_running.proofs.StepLemmas.{has_slept, slept_runs, woken_shown}
 use Rattle.cmwq_running.proofs.changing.wake.Goals as goal

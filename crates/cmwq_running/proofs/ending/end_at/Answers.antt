@@ -1,7 +1,7 @@
 use Rattle.std.proofs.Common.{◌≡◌, ◌<◌, Some, sym, ap, subst, ◌∙◌}
 use Rattle.cmwq_phased.specs.PhasedContents.{PhasedContents}
-use Rattle.cmwq_phases.specs.Phases.{shown_all}
-use Rattle.cmwq_phases.specs.Runs.{run_at}
+use Rattle.cmwq_phased.specs.Phases.{shown_all}
+use Rattle.cmwq_phased.specs.Runs.{run_at}
 use Rattle.cmwq_running.specs.Heads.{AreHeaded, alarm_count}
 use Rattle.cmwq_running.proofs.EndLemmas.{Follows, all_timely, end_fewer, end_headed, end_shown, first_ends, first_later, first_to_end_runs, follows, on_time_of}
 use Rattle.cmwq_running.proofs.ShownLemmas.{seen_is}

@@ -1,5 +1,5 @@
 use Rattle.std.proofs.Common.{sym, ◌∙◌}
-use Rattle.cmwq_phases.specs.Runs.{first_to_end}
+use Rattle.cmwq_phased.specs.Runs.{first_to_end}
 use Rattle.cmwq_running.proofs.EndLemmas.{all_timely, first_by, none_by}
 use Rattle.cmwq_running.proofs.ending.end_first.Goals as goal
 

@@ -1,6 +1,6 @@
 use Rattle.std.proofs.Common.{sym, ap, subst, ◌∙◌}
 use Rattle.cmwq_phased.specs.PhasedContents.{PhasedContents}
-use Rattle.cmwq_phases.specs.Phases.{shown_all}
+use Rattle.cmwq_phased.specs.Phases.{shown_all}
 use Rattle.cmwq_running.specs.Heads.{GoIn, HaveHeads}
 use Rattle.cmwq_running.proofs.PaceLemmas.{all_shown_paced, paced_going, paced_heads}
 use Rattle.cmwq_running.proofs.pacing.balance_normal.Goals as goal

@@ -2,7 +2,7 @@ use Rattle.std.proofs.lemmas.Result.{err_from_is_err_and}
 use Rattle.cmwq_play.specs.Runs.{IsRefused}
 use Rattle.cmwq_play.proofs.CommandLemmas.{sending_outside}
 use Rattle.cmwq_play.proofs.TextLemmas.{answers_told, answers_unread, answers_well, not_refused, refused_once}
-use Rattle.cmwq_framed.specs.Framing.{IsTextBy}
+use Rattle.cmwq_play.specs.Framing.{IsTextBy}
 use Rattle.cmwq_trace.specs.Json.{json_text}
 use Rattle.cmwq_trace.proofs.json_trace.trace_json.Goals as goal
 

@@ -3,7 +3,7 @@ use Rattle.cmwq_types.specs.Scenario.{expand}
 use Rattle.cmwq_table.specs.State.{start}
 use Rattle.cmwq_table.specs.Table.{table}
 use Rattle.cmwq_play.proofs.CommandLemmas.{writes_more}
-use Rattle.cmwq_framed.specs.Framing.{IsTextBy, framed_text}
+use Rattle.cmwq_play.specs.Framing.{IsTextBy, framed_text}
 use Rattle.cmwq_trace.specs.Json.{json_text}
 use Rattle.cmwq_trace.specs.JsonParts.{json_closing, json_opening, json_told, keeps_json}
 use Rattle.cmwq_trace.specs.declared.json_trace.JsonTeller.{JsonTeller}

@@ -3,8 +3,8 @@ use Rattle.cmwq_types.specs.Scenario.{flags_at}
 use Rattle.cmwq_types.specs.declared.scenario.Flags.{Flags}
 use Rattle.cmwq_phased.specs.Counted.{AreCounted}
 use Rattle.cmwq_phased.specs.Indexes.{awake_class, awake_classes, busy_class, busy_classes, rescued_class, rescued_classes, running_class, running_classes}
-use Rattle.cmwq_phases.specs.Runs.{run_at}
-use Rattle.cmwq_phases.specs.declared.run.Run.{Run}
+use Rattle.cmwq_phased.specs.Runs.{run_at}
+use Rattle.cmwq_phased.specs.declared.run.Run.{Run}
 use Rattle.cmwq_tally.specs.TallyContents.{changed}
 use Rattle.cmwq_types.specs.Contents.{ScenarioContents}
 use Rattle.cmwq_phased.proofs.ChangeLemmas.{counted_with}

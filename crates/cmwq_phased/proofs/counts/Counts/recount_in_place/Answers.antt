@@ -3,7 +3,7 @@ use Rattle.cmwq_types.specs.Scenario.{flags_at}
 use Rattle.cmwq_types.specs.declared.scenario.Flags.{Flags}
 use Rattle.cmwq_phased.specs.Counted.{AreCounted}
 use Rattle.cmwq_phased.specs.Indexes.{awake_class, awake_classes}
-use Rattle.cmwq_phases.specs.Runs.{run_at}
+use Rattle.cmwq_phased.specs.Runs.{run_at}
 use Rattle.cmwq_tally.specs.TallyContents.{changed}
 use Rattle.cmwq_phased.proofs.ChangeLemmas.{counted_awake, counted_still}
 use Rattle.cmwq_phased.proofs.CountLemmas.{class_counted, class_room}

@@ -1,5 +1,5 @@
 use Rattle.std.proofs.Common.{rules, ◌<◌, ◌^◌, IfSome, length, subst, sym}
-use Rattle.cmwq_phases.specs.Runs.{HasOwnStamp}
+use Rattle.cmwq_phased.specs.Runs.{HasOwnStamp}
 use Rattle.cmwq_phased.specs.PhasedContents.{PhasedContents}
 use Rattle.cmwq_phased.proofs.ChangeLemmas.{runs_with}
 use Rattle.cmwq_phased.proofs.phased_works.PhasedWorks.change.Goals as goal

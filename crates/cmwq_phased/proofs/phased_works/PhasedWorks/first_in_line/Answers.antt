@@ -1,6 +1,6 @@
 use Rattle.std.proofs.Common.{ap, ◌∙◌}
 use Rattle.cmwq_lists.specs.ListContents.{first_in}
-use Rattle.cmwq_phases.specs.Runs.{first_in_line}
+use Rattle.cmwq_phased.specs.Runs.{first_in_line}
 use Rattle.cmwq_phased.specs.PhasedContents.{PhasedContents}
 use Rattle.cmwq_phased.proofs.LineLemmas.{first_in_line_is}
 use Rattle.cmwq_phased.proofs.phased_works.PhasedWorks.first_in_line.Goals as goal

@@ -1,5 +1,5 @@
 use Rattle.std.proofs.Common.{Some, ap, ◌∙◌}
-use Rattle.cmwq_phases.specs.Runs.{first_to_end}
+use Rattle.cmwq_phased.specs.Runs.{first_to_end}
 use Rattle.cmwq_phased.specs.PhasedContents.{PhasedContents, if_ends_by}
 use Rattle.cmwq_phased.proofs.AlarmLemmas.{ends_by_found}
 use Rattle.cmwq_phased.proofs.phased_works.PhasedWorks.first_to_end_by.Goals as goal

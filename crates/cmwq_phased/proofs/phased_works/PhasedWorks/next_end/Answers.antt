@@ -1,5 +1,5 @@
 use Rattle.std.proofs.Common.{ap, ◌∙◌}
-use Rattle.cmwq_phases.specs.Runs.{first_to_end}
+use Rattle.cmwq_phased.specs.Runs.{first_to_end}
 use Rattle.cmwq_phased.specs.PhasedContents.{PhasedContents, end_of}
 use Rattle.cmwq_phased.proofs.AlarmLemmas.{next_end_found}
 use Rattle.cmwq_phased.proofs.phased_works.PhasedWorks.next_end.Goals as goal

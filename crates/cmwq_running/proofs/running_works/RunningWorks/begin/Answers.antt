@@ -1,7 +1,7 @@
 use Rattle.std.proofs.Common.{◌<◌, ℕ, IfSome, Some, sym, subst}
 use Rattle.cmwq_table.specs.State.{running_at}
-use Rattle.cmwq_phases.specs.Runs.{HasOwnStamp}
-use Rattle.cmwq_phases.specs.declared.run.Run.{Run}
+use Rattle.cmwq_phased.specs.Runs.{HasOwnStamp}
+use Rattle.cmwq_phased.specs.declared.run.Run.{Run}
 use Rattle.cmwq_running.specs.Heads.{ComesLast}
 use Rattle.cmwq_running.specs.RunningContents.{RunningContents, first_run, state_of}
 use Rattle.cmwq_running.proofs.StepLemmas.{newest_last, newest_own}

@@ -2,7 +2,7 @@ use Rattle.std.proofs.Common.{◌≡◌, ℕ, Bool, true, ◌&&◌, ◌==◌, re
 use Rattle.cmwq_types.specs.Contents.{ScenarioContents}
 use Rattle.cmwq_types.specs.Scenario.{flags_at}
 use Rattle.cmwq_table.specs.Counts.{has_free_rescuer}
-use Rattle.cmwq_phases.specs.Runs.{rescued_of}
+use Rattle.cmwq_phased.specs.Runs.{rescued_of}
 use Rattle.cmwq_running.specs.RunningContents.{RunningContents, seen, state_of}
 use Rattle.cmwq_running.proofs.ShownLemmas.{has_free_rescuer_is}
 use Rattle.cmwq_running.proofs.running_works.RunningWorks.has_free_rescuer.Goals as goal

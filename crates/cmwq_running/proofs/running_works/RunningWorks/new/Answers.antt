@@ -1,7 +1,7 @@
 use Rattle.std.proofs.Common.{List, None, Option, length, replicate, ap, sym, ◌∙◌}
 use Rattle.cmwq_types.specs.Contents.{ScenarioContents}
-use Rattle.cmwq_phases.specs.Phases.{shown_all}
-use Rattle.cmwq_phases.specs.declared.run.Run.{Run}
+use Rattle.cmwq_phased.specs.Phases.{shown_all}
+use Rattle.cmwq_phased.specs.declared.run.Run.{Run}
 use Rattle.cmwq_running.proofs.HeadLemmas.{none_kept}
 use Rattle.cmwq_running.proofs.ShownLemmas.{none_shown, seen_is}
 use Rattle.cmwq_running.proofs.running_works.RunningWorks.new.Goals as goal

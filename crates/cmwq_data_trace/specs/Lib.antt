@@ -1,2 +1,0 @@
-pub mod DataTrace
-pub mod Recording

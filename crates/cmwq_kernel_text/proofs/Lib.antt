@@ -1,3 +1,0 @@
-mod ColumnLemmas
-mod SendLemmas
-mod TextLemmas

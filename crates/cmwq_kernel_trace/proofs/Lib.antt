@@ -1,0 +1,4 @@
+mod ColumnLemmas
+mod RecordingLemmas
+mod SendLemmas
+mod TextLemmas

@@ -1,0 +1,5 @@
+pub mod DataTrace
+pub mod Examples
+pub mod KernelText
+pub mod Recording
+pub mod TextParts
