@@ -1,6 +1,6 @@
 //! The calls, by their names.
 
-use crate::bodies::{Body, BodyCall};
+use crate::bodies::BodyCall;
 use crate::debugging::{Asked, Way};
 use crate::engines::EngineCall;
 use crate::machines::MachineCall;
@@ -20,7 +20,7 @@ pub(crate) enum CallName {
     Text(TextCall),
     Lists(StoreCall),
     Timers(StoreCall),
-    On(Body, BodyCall),
+    On(BodyCall),
     Stream(StreamCall),
     Debug,
     Play,
@@ -75,8 +75,14 @@ const FLUSHED: Inquiry<'static> = Inquiry {
     ..ASKED
 };
 
+/// The word for a history.
+const HISTORY: &str = "history";
+
 /// The call of this name, if there is one.
 pub(crate) fn call_of(word: &str) -> Option<CallName> {
+    if word == HISTORY {
+        return Some(CallName::On(BodyCall::History));
+    }
     match word {
         "Lists::new" => Some(CallName::Lists(StoreCall::New)),
         "Lists::copy" => Some(CallName::Lists(StoreCall::Copy)),
@@ -93,11 +99,8 @@ fn call_with_text(word: &str) -> Option<CallName> {
     if let Some(call) = text_call_of(word) {
         return Some(CallName::Text(call));
     }
-    if let Some(call) = plain_call_of(word) {
-        return Some(CallName::On(Body::Plain, call));
-    }
-    if let Some(call) = core_call_of(word) {
-        return Some(CallName::On(Body::Core, call));
+    if let Some(call) = body_call_of(word) {
+        return Some(CallName::On(call));
     }
     stream_call_of(word).map(CallName::Stream)
 }
@@ -114,26 +117,47 @@ fn text_call_of(word: &str) -> Option<TextCall> {
     }
 }
 
-fn plain_call_of(word: &str) -> Option<BodyCall> {
+fn body_call_of(word: &str) -> Option<BodyCall> {
+    if let Some(call) = plain_call_of(word) {
+        return Some(BodyCall::Other(call));
+    }
+    if let Some(call) = core_call_of(word) {
+        return Some(BodyCall::Machine(call));
+    }
+    if let Some(call) = engine_call_of(word) {
+        return Some(BodyCall::Engine(call));
+    }
     match word {
-        "Plain::load" => Some(BodyCall::Machine(MachineCall::Load)),
-        "Plain::copy" => Some(BodyCall::Machine(MachineCall::Copy)),
-        "Plain::look" => Some(BodyCall::Machine(MachineCall::Look)),
+        "Debugger::open" => Some(BodyCall::OpenDebugger),
+        _ => asked_of(word).map(BodyCall::Debugger),
+    }
+}
+
+fn plain_call_of(word: &str) -> Option<MachineCall> {
+    match word {
+        "Plain::load" => Some(MachineCall::Load),
+        "Plain::copy" => Some(MachineCall::Copy),
+        "Plain::look" => Some(MachineCall::Look),
         _ => None,
     }
 }
 
-fn core_call_of(word: &str) -> Option<BodyCall> {
+fn core_call_of(word: &str) -> Option<MachineCall> {
     match word {
-        "Core::load" => Some(BodyCall::Machine(MachineCall::Load)),
-        "Core::copy" => Some(BodyCall::Machine(MachineCall::Copy)),
-        "Core::look" => Some(BodyCall::Machine(MachineCall::Look)),
-        "dump_text" => Some(BodyCall::Machine(MachineCall::Dump)),
-        "Engine::open" => Some(BodyCall::Engine(EngineCall::Open)),
-        "Shared::open" => Some(BodyCall::Engine(EngineCall::OpenShared)),
-        "TicketLock::open" => Some(BodyCall::Engine(EngineCall::OpenLock)),
-        "Debugger::open" => Some(BodyCall::OpenDebugger),
-        _ => asked_of(word).map(BodyCall::Debugger),
+        "Core::load" => Some(MachineCall::Load),
+        "Core::copy" => Some(MachineCall::Copy),
+        "Core::look" => Some(MachineCall::Look),
+        "dump_text" => Some(MachineCall::Dump),
+        _ => None,
+    }
+}
+
+fn engine_call_of(word: &str) -> Option<EngineCall> {
+    match word {
+        "Engine::open" => Some(EngineCall::Open),
+        "Shared::open" => Some(EngineCall::OpenShared),
+        "TicketLock::open" => Some(EngineCall::OpenLock),
+        _ => None,
     }
 }
 

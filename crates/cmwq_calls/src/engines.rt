@@ -2,6 +2,7 @@
 
 use crate::instructions::{actor_instrs, count_of};
 use crate::showing::{say, show_machine};
+use crate::timing::issue_timed;
 use crate::trying::{Tried, try_call};
 use cmwq_asm::assemble;
 use cmwq_engine::{Engine, Shared};
@@ -59,11 +60,11 @@ impl<M: Machine> Tried for Opening<'_, M> {
     fn show_answer<R: Print>(
         &mut self,
         rt: &R,
-        _alloc: Global,
+        alloc: Global,
         mut answer: Engine<M>,
     ) -> Result<(), PlayError> {
         show_machine(rt, answer.machine())?;
-        issue_all(&mut answer, self.instrs)?;
+        issue_all(alloc, &mut answer, self.instrs)?;
         for entry in answer.history() {
             say(rt, format_args!("{entry:?}"))?;
         }
@@ -103,18 +104,16 @@ fn locked<M: Machine>(alloc: Global, engine: Engine<M>) -> Result<Engine<M>, Pla
     lock.close(opener).map_err(|_out| PlayError::Tickets)
 }
 
-/// Issues the instructions on an engine without a history, under the tickets 0, 1 and so on.
-fn issue_all<M: Machine>(engine: &mut Engine<M>, instrs: &[Instr]) -> Result<(), PlayError> {
+/// Issues the instructions on an engine without a history.
+fn issue_all<M: Machine>(
+    alloc: Global,
+    engine: &mut Engine<M>,
+    instrs: &[Instr],
+) -> Result<(), PlayError> {
     if !engine.history().is_empty() {
         return Err(PlayError::Full);
     }
-    let mut ticket = 0u64;
-    for instr in instrs {
-        engine
-            .issue(ticket, 0, *instr)
-            .map_err(|_full| PlayError::Full)?;
-        ticket = ticket.checked_add(1).ok_or(PlayError::Tickets)?;
-    }
+    let _times = issue_timed(alloc, engine, instrs)?;
     Ok(())
 }
 

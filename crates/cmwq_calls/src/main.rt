@@ -29,13 +29,12 @@ mod texts;
 mod timing;
 mod trying;
 
-use bodies::{Body, BodyCall, try_body};
+use bodies::{BodyCall, try_body};
 use call_name::{CallName, call_of};
 use cmwq_core::Core;
 use cmwq_outcome::fault;
 use cmwq_plain::Plain;
 use cmwq_play::{Marked, PlayError, read_whole};
-use history::show_history;
 use std::alloc::Global;
 use std::io::Read;
 use std::process::ExitCode;
@@ -47,22 +46,14 @@ use std::{env, io};
 /// The status where the word names no call.
 const USAGE: u8 = 2;
 
-/// The word for a history.
-const HISTORY: &str = "history";
-
-/// Makes a call of the machine of vectors.
-fn try_plain<R: Print>(
+/// Makes a call of the machine of lists, or of the other body, that of vectors. No other function names them: that costs much to prove.
+fn try_on_bodies<R: Print>(
     rt: &R,
     alloc: Global,
     call: BodyCall,
     text: &[u8],
 ) -> Result<(), PlayError> {
-    try_body::<Plain, R>(rt, alloc, call, text)
-}
-
-/// Makes a call of the machine of lists.
-fn try_core<R: Print>(rt: &R, alloc: Global, call: BodyCall, text: &[u8]) -> Result<(), PlayError> {
-    try_body::<Core, R>(rt, alloc, call, text)
+    try_body::<Core, Plain, R>(rt, alloc, call, text)
 }
 
 /// Makes the call, of the scenario of this text where it takes one.
@@ -76,25 +67,20 @@ fn try_named<R: Print + Threads + Wait + Clock + Sync>(
         CallName::Lists(call) => stores::try_lists(rt, alloc, *call),
         CallName::Timers(call) => stores::try_timers(rt, alloc, *call),
         CallName::Text(call) => texts::try_text(rt, alloc, *call, text),
-        CallName::On(Body::Plain, call) => try_plain(rt, alloc, *call, text),
-        CallName::On(Body::Core, call) => try_core(rt, alloc, *call, text),
+        CallName::On(call) => try_on_bodies(rt, alloc, *call, text),
         CallName::Stream(call) => streams::try_stream(rt, alloc, *call, text),
         CallName::Debug => session::try_debug(rt, alloc, text),
         CallName::Play => acting::try_play(rt, alloc, text),
     }
 }
 
-/// Makes the call that the word names, of the scenario of this text where it takes one, or prints its history, and gives the exit status.
+/// Makes the call that the word names, of the scenario of this text where it takes one, and gives the exit status.
 fn try_word<R: Print + Threads + Wait + Clock + Sync>(
     rt: &R,
     alloc: Global,
     word: &str,
     text: &[u8],
 ) -> Result<u8, PlayError> {
-    if word == HISTORY {
-        show_history::<Core, Plain, R>(rt, alloc, text)?;
-        return Ok(0);
-    }
     let Some(name) = call_of(word) else {
         return Ok(USAGE);
     };

@@ -37,8 +37,8 @@ pub(crate) fn issued<M: Machine>(
     Ok((engine, times))
 }
 
-/// Issues the instructions, and gives the time behind each, in ticks.
-fn issue_timed<M: Machine>(
+/// Issues the instructions under the tickets 0, 1 and so on, and gives the time behind each, in ticks.
+pub(crate) fn issue_timed<M: Machine>(
     alloc: Global,
     engine: &mut Engine<M>,
     instrs: &[Instr],
