@@ -14,6 +14,7 @@ ROWS = [
     ("A remark.\n  $ echo one; echo two >&2\n  one\n  two\n  $ cmwq 7\n  7\n  [7]\n", 0),
     ("  $ cat << .\n  > one\n  > .\n  one\n\n  $ printf one\n  one (no-eol)\n  $ printf '\\377\\n'\n  \\xff (esc)\n", 0),
     ("  $ said() { echo $1; }\n  $ said one\n  one\n", 0),
+    ('  $ test -e "$TESTDIR/row.t"\n', 0),
     ("  $ echo one\n  two\n", 1),
     ("  $ echo one\n", 1),
     ("  $ echo one\n  one\n  two\n  $ true\n", 1),

@@ -1,7 +1,8 @@
 """Runs the transcripts of gate/transcripts/, each a talk with a shell, as cram has them: a line that begins with two spaces and `$ ` is a command,
 `> ` there carries it on, and the other lines with two spaces before them are what it prints, on standard error too. Where it doesn't end with
 status 0, that stands behind it in brackets; ` (no-eol)` stands behind a last line that isn't ended, and ` (esc)` behind one with escapes of
-bytes. All other lines are remarks. A transcript's commands are one shell's, in a folder that was empty, and `cmwq` is the program.
+bytes. All other lines are remarks. A transcript's commands are one shell's, in a folder that was empty; `cmwq` is the program, and TESTDIR the
+transcript's own folder.
 
     python3 gate/transcripts.py PROGRAM [TRANSCRIPT..]"""
 import difflib
@@ -39,14 +40,14 @@ def shown(line):
     return "".join(chr(it) if 32 <= it < 127 and it != 92 else repr(bytes([it]))[2:-1] for it in text) + end + " (esc)"
 
 
-def outputs_of(program, commands, room):
+def outputs_of(program, commands, room, folder):
     """What each command prints, as lines of a transcript. Those behind one that ends the shell print nothing."""
     os.symlink(os.path.abspath(program), f"{room}/cmwq")
     os.mkdir(f"{room}/here")
     script = "".join(f"{text}\nprintf '\\n{MARK} {at} %s\\n' $?\n" for at, (_, text, _) in enumerate(commands))
     with open(f"{room}/commands", "w", encoding="utf-8") as it:
         it.write(script)
-    env = {**os.environ, "PATH": f"{room}:{os.environ['PATH']}", "LC_ALL": "C"}
+    env = {**os.environ, "PATH": f"{room}:{os.environ['PATH']}", "LC_ALL": "C", "TESTDIR": folder}
     ran = subprocess.run(["bash", f"{room}/commands"], cwd=f"{room}/here", env=env, stdin=subprocess.DEVNULL, stdout=subprocess.PIPE, stderr=subprocess.STDOUT, timeout=300)
     parts = re.split(rb"\n" + MARK.encode() + rb" \d+ (\d+)\n", ran.stdout)
     for printed, status in zip(parts[::2], parts[1::2]):
@@ -59,7 +60,7 @@ def faults_of(program, path):
         lines = it.read().splitlines()
     commands = commands_of(lines)
     with tempfile.TemporaryDirectory(prefix="transcript-") as room:
-        got = list(outputs_of(program, commands, room))
+        got = list(outputs_of(program, commands, room, os.path.dirname(os.path.abspath(path))))
     name, faults = os.path.relpath(path, TOP), []
     for at, (number, text, wanted) in enumerate(commands):
         printed = got[at] if at < len(got) else ["(the shell has ended)"]

@@ -1,64 +1,11 @@
 Why works wait, and what flushes wait for. (scenarios/ has the answers for whole runs.)
 Two works share the one place of a queue; a third takes the CPU.
 
-  $ cat >hold.cmwq <<end
-  > cpus 1
-  > workers 2
-  > steps 100
-  > flushes 1
-  > queue q max 1
-  > queue h max 1 highpri
-  > work a q
-  > work b q
-  > work u h
-  > body a
-  > burn 2
-  > sleep 2
-  > finish
-  > body b
-  > burn 1
-  > finish
-  > body u
-  > burn 1
-  > finish
-  > actor t
-  > queue a 0
-  > queue b 0
-  > flush_queue q
-  > next * 3
-  > queue u 0
-  > next * 17
-  > end
+  $ cp "$TESTDIR/../../scenarios/holds_the_limit.cmwq" hold.cmwq
 
 The kernel's document's works under `max_active` 3, before any `next`.
 
-  $ cat >unsettled.cmwq <<end
-  > cpus 1
-  > workers 4
-  > steps 1000
-  > flushes 2
-  > queue q max 3
-  > work w0 q
-  > work w1 q
-  > work w2 q
-  > body w0
-  > burn 5
-  > sleep 10
-  > burn 5
-  > finish
-  > body w1
-  > burn 5
-  > sleep 10
-  > finish
-  > body w2
-  > burn 5
-  > sleep 10
-  > finish
-  > actor t
-  > queue w0 0
-  > queue w1 0
-  > queue w2 0
-  > end
+  $ grep -v "^next" "$TESTDIR/../../scenarios/max_active_3.cmwq" >unsettled.cmwq
 
 One position or one time alone, the first and the last among them, whatever is told before it.
 

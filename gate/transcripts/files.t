@@ -7,21 +7,7 @@ Each command on real files. Below a command's output stands what it says on stan
   > }
 
 A scenario whose steps run out.
-  $ cat > a.cmwq <<'END'
-  > cpus 1
-  > workers 4
-  > steps 8
-  > flushes 2
-  > queue q max 1
-  > work a q
-  > body a
-  > queue a 0
-  > finish
-  > actor t
-  > queue a 0
-  > next * 8
-  > state a
-  > END
+  $ cp "$TESTDIR/../../scenarios/steps_run_out.cmwq" a.cmwq
 
 Its run: as far as the actor's instructions go, settled, and with each instruction told. It never gets quiet.
   $ cmwq run a.cmwq

@@ -1,20 +1,6 @@
 Images. That of a work that queues itself until the steps are spent, whose bytes docs/FORMATS.md tells field by field.
 
-  $ cat >text <<end
-  > cpus 1
-  > workers 4
-  > steps 8
-  > flushes 2
-  > queue q max 1
-  > work a q
-  > body a
-  > queue a 0
-  > finish
-  > actor t
-  > queue a 0
-  > next * 8
-  > state a
-  > end
+  $ cp "$TESTDIR/../../scenarios/steps_run_out.cmwq" text
   $ cmwq asm text image
   $ od -An -tx1 -v -w18 image
    43 4d 57 51 00 04 01 04 00 00 00 08 00 02 01 00 01 01

@@ -1,32 +1,6 @@
 The kernel's document's works under `max_active` 3, before any `next`. Their run is drawn, listed with the lines that settle it, and printed.
 
-  $ cat >unsettled.cmwq <<end
-  > cpus 1
-  > workers 4
-  > steps 1000
-  > flushes 2
-  > queue q max 3
-  > work w0 q
-  > work w1 q
-  > work w2 q
-  > body w0
-  > burn 5
-  > sleep 10
-  > burn 5
-  > finish
-  > body w1
-  > burn 5
-  > sleep 10
-  > finish
-  > body w2
-  > burn 5
-  > sleep 10
-  > finish
-  > actor t
-  > queue w0 0
-  > queue w1 0
-  > queue w2 0
-  > end
+  $ grep -v "^next" "$TESTDIR/../../scenarios/max_active_3.cmwq" >unsettled.cmwq
   $ cmwq draw --settle unsettled.cmwq
        0    5    10   15   20   25
   0 w0 |#####..........#####     |
