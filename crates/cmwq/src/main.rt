@@ -12,59 +12,85 @@ use cmwq_request::request;
 use cmwq_request::request::STANDARD_INPUT;
 use std::io::IsTerminal;
 use std::process::ExitCode;
+use std::sync::Wait;
+use std::thread::Threads;
+use std::time::Clock;
 use std::{env, io};
 
 /// The logic that the program's proofs rest on, as `rt version` names it; the gate compares the two.
 const LOGIC: &str = "dac8208d650f15bf";
 
+fn main(rt: HostRuntime) -> ExitCode {
+    match words_given(&rt) {
+        Ok(Some(words)) => do_words(&rt, &rt, words),
+        Ok(None) => end_with(&rt, tell_not_text(&rt)),
+        Err(error) => end_with(&rt, Err(error)),
+    }
+}
+
+/// Does what the words ask, and gives the exit status. Threads are lent by the runtime as one that has them, which is a bound of the function.
+fn do_words<R: AllocGlobal + Threads + Wait + Clock + Sync>(
+    rt: &HostRuntime,
+    threads: &R,
+    words: Vec<String>,
+) -> ExitCode {
+    let mut words = words;
+    let look = look_of_verdicts(rt, take_explain(&mut words));
+    match input_read(rt, &words) {
+        Ok(input) => do_all(rt, threads, &disk_of(rt, input.as_deref()), look, &words),
+        Err(error) => end_with(rt, Err(error)),
+    }
+}
+
 /// Does what the words ask. A fault that was told is followed by what can be done about it, and a run by what should be known of it, where
 /// that is asked for or standard error is a terminal.
-fn main(rt: HostRuntime) -> ExitCode {
-    let mut words = match words_given(&rt) {
-        Ok(Some(words)) => words,
-        Ok(None) => return end_with(&rt, tell_not_text(&rt)),
-        Err(error) => return end_with(&rt, Err(error)),
+fn do_all<R: AllocGlobal + Threads + Wait + Clock + Sync>(
+    rt: &HostRuntime,
+    threads: &R,
+    disk: &Disk<'_, HostRuntime>,
+    look: Look,
+    words: &[String],
+) -> ExitCode {
+    let outcome = carried_out(rt, threads, disk, look, words);
+    let mut errors = Marked::new(rt.stderr());
+    let code = fault::end_with(&mut errors, outcome);
+    if look != Look::Plain && !errors.failed {
+        // Where this can't be told there is nobody left to tell that.
+        let _ = match outcome {
+            Err(fault) => advise(rt.alloc(), disk, look, words, fault, &mut errors),
+            Ok(GOOD) => remark(rt.alloc(), disk, words, &mut errors),
+            Ok(_) => Ok(()),
+        };
+    }
+    code
+}
+
+/// Carries out what the words ask, over the program's own streams.
+fn carried_out<R: AllocGlobal + Threads + Wait + Clock + Sync>(
+    rt: &HostRuntime,
+    threads: &R,
+    disk: &Disk<'_, HostRuntime>,
+    look: Look,
+    words: &[String],
+) -> Result<u8, PlayError> {
+    let setting = ProgramSetting {
+        logic: LOGIC,
+        look,
+        manner: manner_of_sessions(rt),
     };
-    let look = look_of_verdicts(&rt, take_explain(&mut words));
-    let input = match input_read(&rt, &words) {
-        Ok(input) => input,
-        Err(error) => return end_with(&rt, Err(error)),
-    };
-    let disk = disk_of(&rt, input.as_deref());
-    let mut meter = Meter::new(&rt);
+    let mut meter = Meter::new(rt);
     let outcome = carry_out(
-        &rt,
-        &disk,
-        ProgramSetting {
-            logic: LOGIC,
-            look,
-            manner: manner_of_sessions(&rt),
-        },
-        words.as_slice(),
+        threads,
+        disk,
+        setting,
+        words,
         rt.stdin(),
         &mut Marked::new(rt.stdout()),
         &mut Marked::new(rt.stderr()),
         &mut meter,
     );
     meter.clear();
-    let mut errors = Marked::new(rt.stderr());
-    let code = fault::end_with(&mut errors, outcome);
-    if look != Look::Plain && !errors.failed {
-        // Where this can't be told there is nobody left to tell that.
-        let _ = match outcome {
-            Err(fault) => advise(
-                rt.alloc(),
-                &disk,
-                look,
-                words.as_slice(),
-                fault,
-                &mut errors,
-            ),
-            Ok(GOOD) => remark(rt.alloc(), &disk, words.as_slice(), &mut errors),
-            Ok(_) => Ok(()),
-        };
-    }
-    code
+    outcome
 }
 
 /// The files of the system, with what standard input has.
