@@ -3,6 +3,10 @@
 #![tactic(auto)]
 
 #[cfg(test)]
+mod at_once;
+#[cfg(test)]
+mod bodies;
+#[cfg(test)]
 mod carried;
 #[cfg(test)]
 mod checking;
