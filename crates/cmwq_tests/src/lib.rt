@@ -21,8 +21,6 @@ mod debugging;
 #[cfg(test)]
 mod examples;
 #[cfg(test)]
-mod faults;
-#[cfg(test)]
 mod filling;
 #[cfg(test)]
 mod lists;

@@ -220,15 +220,6 @@ fn check_meeting<M: Machine>(rt: &impl Abort, alloc: Global) {
     let _p0 = issued(rt, &shared, d0, Instr::State(A), Ok(receipt(2, 2, LISTED)));
 }
 
-/// With 64 callers out, one more is refused.
-fn check_64_out<M: Machine>(rt: &impl Abort, alloc: Global) {
-    let (shared, mut opener) = opened::<M>(rt, alloc, ONE_WORK, 3);
-    for _ in 0u64..64 {
-        let _stays_out = shared.pass(&mut opener).expect(rt, "fewer than 64 are out");
-    }
-    same(rt, "64 passes out", shared.pass(&mut opener).is_err(), true);
-}
-
 /// Two threads see each other's work, their callers meet, and both serve on.
 fn check_seeing<M: Machine + Send + Sync, R: Threads + Wait + Clock + Abort + Sync>(
     rt: &R,
@@ -256,13 +247,12 @@ fn check_seeing<M: Machine + Send + Sync, R: Threads + Wait + Clock + Abort + Sy
     assert!(rt; last.map(|entry| entry.caller).eq([1, 0].iter().copied()));
 }
 
-/// Two callers issue in the order of their tickets; one issues on after a meeting; a 65th is refused; two threads see each other's work pending, and meet.
+/// Two callers issue in the order of their tickets; one issues on after a meeting; two threads see each other's work pending, and meet.
 pub(crate) fn check_callers<M: Machine + Send + Sync, R: Threads + Wait + Clock + Abort + Sync>(
     rt: &R,
     alloc: Global,
 ) {
     check_order::<M>(rt, alloc);
     check_meeting::<M>(rt, alloc);
-    check_64_out::<M>(rt, alloc);
     check_seeing::<M, R>(rt, alloc);
 }
