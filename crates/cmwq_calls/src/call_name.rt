@@ -102,7 +102,7 @@ fn call_with_text(word: &str) -> Option<CallName> {
     if let Some(call) = body_call_of(word) {
         return Some(CallName::On(call));
     }
-    stream_call_of(word).map(CallName::Stream)
+    Some(CallName::Stream(stream_call_of(word)?))
 }
 
 fn text_call_of(word: &str) -> Option<TextCall> {
@@ -129,7 +129,7 @@ fn body_call_of(word: &str) -> Option<BodyCall> {
     }
     match word {
         "Debugger::open" => Some(BodyCall::OpenDebugger),
-        _ => asked_of(word).map(BodyCall::Debugger),
+        _ => Some(BodyCall::Debugger(asked_of(word)?)),
     }
 }
 
@@ -169,7 +169,7 @@ fn asked_of(word: &str) -> Option<Asked> {
         "Goto" => Some(Asked::Going(Way::Goto)),
         "Goto-copy" => Some(Asked::Going(Way::GotoCopy)),
         "Run" => Some(Asked::Going(Way::Run)),
-        _ => command_of(word).map(Asked::There),
+        _ => Some(Asked::There(command_of(word)?)),
     }
 }
 
@@ -200,7 +200,7 @@ fn stream_call_of(word: &str) -> Option<StreamCall> {
         "check" => Some(StreamCall::Check),
         "new" => Some(StreamCall::New),
         "explore" => Some(StreamCall::Explore),
-        _ => task_of(word).map(StreamCall::Do),
+        _ => Some(StreamCall::Do(task_of(word)?)),
     }
 }
 
@@ -228,7 +228,7 @@ fn telling_of(word: &str) -> Option<Task<'static>> {
     if let Some(times) = times_of(word) {
         return Some(Task::Times(times));
     }
-    trace_form_of(word).map(Task::Trace)
+    Some(Task::Trace(trace_form_of(word)?))
 }
 
 fn run_kind_of(word: &str) -> Option<RunKind> {

@@ -77,10 +77,18 @@ impl<M: Machine> Tried for Opening<'_, M> {
         _alloc: Global,
         mut answer: Debugger<M>,
     ) -> Result<(), PlayError> {
-        show_place(rt, &mut answer)?;
-        show_way(rt, &mut answer)?;
-        show_said(rt, obey(&mut answer, Command::Dump)?)
+        show_debugger(rt, &mut answer)
     }
+}
+
+/// Prints where the debugger stands, where it comes to on its way to the end, and the state there.
+fn show_debugger<M: Machine, R: Print>(
+    rt: &R,
+    debugger: &mut Debugger<M>,
+) -> Result<(), PlayError> {
+    show_place(rt, debugger)?;
+    show_way(rt, debugger)?;
+    show_said(rt, obey(debugger, Command::Dump)?)
 }
 
 /// A debugger, and a command for it.
@@ -210,6 +218,30 @@ pub(crate) fn try_open<M: Machine, R: Print>(
     try_call(rt, alloc, &mut tried)
 }
 
+/// Makes the breaks, and goes to two positions, one after the other.
+fn set_up<M: Machine>(debugger: &mut Debugger<M>, way: [u32; 2]) -> Result<(), PlayError> {
+    for on in BREAKS {
+        let _ = obey(debugger, on)?;
+    }
+    for position in way {
+        let _ = obey(debugger, Command::Goto(position))?;
+    }
+    Ok(())
+}
+
+/// Has a debugger carry out a command, once it has gone this way.
+fn try_behind<M: Machine, R: Print>(
+    rt: &R,
+    alloc: Global,
+    debugger: Debugger<M>,
+    way: [u32; 2],
+    command: Command,
+) -> Result<(), PlayError> {
+    let mut tried = Commanded { debugger, command };
+    set_up(&mut tried.debugger, way)?;
+    try_call(rt, alloc, &mut tried)
+}
+
 /// Has a debugger of the scenario of this text carry out a command.
 pub(crate) fn try_command<M: Machine, R: Print>(
     rt: &R,
@@ -221,12 +253,6 @@ pub(crate) fn try_command<M: Machine, R: Print>(
     let instrs = actor_instrs(alloc, &scenario)?;
     let end = count_of(&instrs)?;
     let (way, command) = way_of(asked, end.saturating_sub(last_times(&scenario)), end);
-    let mut debugger: Debugger<M> = opened(alloc, &scenario, instrs)?;
-    for on in BREAKS {
-        let _ = obey(&mut debugger, on)?;
-    }
-    for position in way {
-        let _ = obey(&mut debugger, Command::Goto(position))?;
-    }
-    try_call(rt, alloc, &mut Commanded { debugger, command })
+    let debugger: Debugger<M> = opened(alloc, &scenario, instrs)?;
+    try_behind(rt, alloc, debugger, way, command)
 }

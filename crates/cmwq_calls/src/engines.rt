@@ -63,13 +63,23 @@ impl<M: Machine> Tried for Opening<'_, M> {
         alloc: Global,
         mut answer: Engine<M>,
     ) -> Result<(), PlayError> {
-        show_machine(rt, answer.machine())?;
-        issue_all(alloc, &mut answer, self.instrs)?;
-        for entry in answer.history() {
-            say(rt, format_args!("{entry:?}"))?;
-        }
-        show_machine(rt, answer.machine())
+        show_engine(rt, alloc, &mut answer, self.instrs)
     }
+}
+
+/// Prints an engine's machine, its entries once it has taken the instructions, and its machine then.
+fn show_engine<M: Machine, R: Print>(
+    rt: &R,
+    alloc: Global,
+    engine: &mut Engine<M>,
+    instrs: &[Instr],
+) -> Result<(), PlayError> {
+    show_machine(rt, engine.machine())?;
+    issue_all(alloc, engine, instrs)?;
+    for entry in engine.history() {
+        say(rt, format_args!("{entry:?}"))?;
+    }
+    show_machine(rt, engine.machine())
 }
 
 /// An engine of the scenario.

@@ -4,10 +4,8 @@ ghost use Rattle.std.specs.Prelude.{◌≤◌, length};
 
 use crate::checking::same;
 use crate::machines::scenario;
-use cmwq_core::Core;
 use cmwq_debug::Debugger;
 use cmwq_debug_lines::answer;
-use cmwq_plain::Plain;
 use cmwq_table::Machine;
 use cmwq_types::{Instr, MAX_HISTORY, MAX_WORKS, Scenario};
 use std::alloc::Global;
@@ -109,8 +107,8 @@ fn check_checkpoints<M: Machine>(rt: &impl Abort, debugger: &Debugger<M>, way: W
     }
 }
 
-/// Goes the long way, and compares what is said and which checkpoints there are.
-fn check_way<M: Machine>(rt: &impl Abort, alloc: Global) {
+/// Goes the long way, and compares what is said and which checkpoints there are: they stand further apart on a long way.
+pub(crate) fn check_way<M: Machine>(rt: &impl Abort, alloc: Global) {
     let scenario = scenario(rt, alloc, A_LONG_WAIT);
     let instrs = instrs_of(rt, alloc, &scenario);
     if instrs.len() > MAX_HISTORY as usize || scenario.works.len() > MAX_WORKS {
@@ -122,10 +120,4 @@ fn check_way<M: Machine>(rt: &impl Abort, alloc: Global) {
         check_line(rt, alloc, &scenario, &mut debugger, way.line, way.said);
         check_checkpoints(rt, &debugger, way);
     }
-}
-
-#[test]
-fn checkpoints_stand_further_apart_on_a_long_way(rt: HostRuntime) {
-    check_way::<Plain>(&rt, rt.alloc());
-    check_way::<Core>(&rt, rt.alloc());
 }

@@ -5,103 +5,39 @@ ghost use Rattle.cmwq_lock.specs.Views.{next_of};
 ghost use Rattle.std.specs.List.{All};
 ghost use Rattle.std.specs.Prelude.{◌≡◌, ◌+◌, ◌<◌, ◌^◌};
 
+use crate::at_once::{Done, Outcomes, Part, at_once};
 use crate::checking::same;
 use crate::shared::{ONE_WORK, closed, opened, with_two_passes};
-use cmwq_core::Core;
-use cmwq_engine::{Engine, IssueError, Receipt, Shared};
+use cmwq_engine::{Engine, Shared};
 use cmwq_lock::{Opener, Pass};
 use cmwq_table::Machine;
 use cmwq_types::{Instr, Reply};
 use std::alloc::Global;
 use std::process::Abort;
-use std::sync::{Barrier, Wait};
-use std::thread::{Threads, join};
+use std::sync::Wait;
+use std::thread::Threads;
+use std::time::Clock;
 
-/// How many instructions came into the history, and how many found it full.
-#[derive(Clone, Copy, Debug, PartialEq, Eq)]
-struct Outcomes {
-    entered: u32,
-    full: u32,
-}
-
-impl Outcomes {
-    /// With one outcome more.
-    fn with(self, outcome: Result<Receipt, IssueError>) -> Outcomes {
-        let entered = u32::from(outcome.is_ok());
-        let full = u32::from(outcome == Err(IssueError::Full));
-        Outcomes {
-            entered: self.entered.saturating_add(entered),
-            full: self.full.saturating_add(full),
-        }
-    }
-
-    /// Those of both threads.
-    fn and(self, other: Outcomes) -> Outcomes {
-        Outcomes {
-            entered: self.entered.saturating_add(other.entered),
-            full: self.full.saturating_add(other.full),
-        }
-    }
-}
-
-/// Asks four times whether anything is busy, once both threads are there.
-fn four_questions<M: Machine, R: Wait>(
-    rt: &R,
-    start: &Barrier,
-    shared: &Shared<M>,
-    pass: Pass<Engine<M>>,
-) -> (Pass<Engine<M>>, Outcomes)
-    requires { IsPassOf shared.now pass }
-    ensures { IsPassOf shared.now result.0 }
-{
-    start.wait(rt);
-    let mut pass = pass;
-    let mut outcomes = Outcomes {
-        entered: 0,
-        full: 0,
-    };
-    for _ in 0..4 {
-        let (back, outcome) = shared.issue(rt, pass, Instr::Busy);
-        pass = back;
-        outcomes = outcomes.with(outcome);
-    }
-    (pass, outcomes)
-}
-
-/// Two threads ask four times each.
-fn both_ask<M: Machine + Send + Sync, R: Threads + Wait + Abort + Sync>(
-    rt: &R,
-    shared: &Shared<M>,
-    one: Pass<Engine<M>>,
-    other: Pass<Engine<M>>,
-) -> (Pass<Engine<M>>, Pass<Engine<M>>)
-    requires one { IsPassOf shared.now one }
-    requires other { IsPassOf shared.now other }
-    ensures one { IsPassOf shared.now result.0 }
-    ensures other { IsPassOf shared.now result.1 }
-{
-    let start = Barrier::new(2);
-    let start = &start;
-    let ((one, first), (other, second)) = join(
-        rt,
-        move || four_questions(rt, start, shared, one),
-        move || four_questions(rt, start, shared, other),
-    );
+/// Of eight questions five came into the history, and three found it full.
+fn check_asked(rt: &impl Abort, done: (Done, Done)) {
     let want = Outcomes {
         entered: 5,
         full: 3,
     };
-    same(rt, "five of eight", first.and(second), want);
-    (one, other)
+    match done {
+        (Done::Asked(one), Done::Asked(other)) => same(rt, "five of eight", one.and(other), want),
+        _ => panic!(rt; "both threads ask"),
+    }
 }
 
 /// Of eight questions by two threads five come into a history of five, in the order of their tickets.
-fn check_filling<M: Machine + Send + Sync, R: Threads + Wait + Abort + Sync>(
+fn check_filling<M: Machine + Send + Sync, R: Threads + Wait + Clock + Abort + Sync>(
     rt: &R,
     alloc: Global,
 ) {
     let (shared, opener, p0, p1) = with_two_passes::<M>(rt, alloc, ONE_WORK, 5);
-    let (p0, p1) = both_ask(rt, &shared, p0, p1);
+    let (p0, p1, done) = at_once(rt, &shared, p0, p1, (Part::Ask, Part::Ask));
+    check_asked(rt, done);
     let engine = closed(rt, shared, opener, p0, p1);
     let history = engine.history();
     same(rt, "entries", history.len(), 5);
@@ -178,12 +114,10 @@ fn check_caller_64<M: Machine, R: Wait + Abort>(rt: &R, alloc: Global) {
 }
 
 /// Two threads fill a history, and a pass after the 64th has a number of its own.
-fn check_long<M: Machine + Send + Sync, R: Threads + Wait + Abort + Sync>(rt: &R, alloc: Global) {
+pub(crate) fn check_long<M: Machine + Send + Sync, R: Threads + Wait + Clock + Abort + Sync>(
+    rt: &R,
+    alloc: Global,
+) {
     check_filling::<M, R>(rt, alloc);
     check_caller_64::<M, R>(rt, alloc);
-}
-
-#[test]
-fn a_shared_engine_fills_and_numbers_its_passes(rt: HostRuntime) {
-    check_long::<Core, HostRuntime>(&rt, rt.alloc());
 }

@@ -3,6 +3,10 @@
 #![tactic(auto)]
 
 #[cfg(test)]
+mod at_once;
+#[cfg(test)]
+mod bodies;
+#[cfg(test)]
 mod carried;
 #[cfg(test)]
 mod checking;
@@ -16,8 +20,6 @@ mod commands;
 mod debugging;
 #[cfg(test)]
 mod examples;
-#[cfg(test)]
-mod faults;
 #[cfg(test)]
 mod filling;
 #[cfg(test)]

@@ -2,8 +2,6 @@
 use crate::checking::same;
 use crate::examples::TWO_WORKS;
 use cmwq_asm::assemble;
-use cmwq_core::Core;
-use cmwq_plain::Plain;
 use cmwq_table::{LoadError, Machine, View};
 use cmwq_types::{Fault, Instr, QueueId, Reply, Scenario, WorkId};
 use std::alloc::Global;
@@ -180,16 +178,10 @@ fn check_not_loaded<M: Machine>(rt: &impl Abort, alloc: Global) {
 }
 
 /// A copy goes on alone, a look shows the state, and a scenario with a fault isn't loaded.
-fn check_machine<M: Machine>(rt: &impl Abort, alloc: Global) {
+pub(crate) fn check_machine<M: Machine>(rt: &impl Abort, alloc: Global) {
     check_copy::<M>(rt, alloc);
     for row in LOOKED {
         check_looked::<M>(rt, alloc, &row);
     }
     check_not_loaded::<M>(rt, alloc);
-}
-
-#[test]
-fn either_body_copies_looks_and_loads(rt: HostRuntime) {
-    check_machine::<Plain>(&rt, rt.alloc());
-    check_machine::<Core>(&rt, rt.alloc());
 }

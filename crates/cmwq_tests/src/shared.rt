@@ -1,23 +1,23 @@
-//! Shared engines over `Core`: what no clause says of them, that their calls succeed, for one thread and for two.
+//! Shared engines: what no clause says of them, that their calls succeed, for one thread and for two.
 ghost use Rattle.std.specs.Prelude.{◌≡◌, ◌≤◌};
 ghost use Rattle.cmwq_types.specs.declared.limits.TheConstants.{MAX_HISTORY};
 ghost use Rattle.cmwq_lock.specs.Tokens.{opener_view};
 ghost use Rattle.cmwq_lock.specs.Views.{next_of};
 ghost use Rattle.cmwq_engine.specs.Shared.{IsDrawnOf, IsOpenerOf, IsPassOf};
 
+use crate::at_once::{Done, Part, at_once, is_pending};
 use crate::checking::same;
 use crate::examples::TWO_WORKS;
 use cmwq_asm::assemble;
-use cmwq_core::Core;
-use cmwq_engine::{Engine, Full, IssueError, Receipt, Shared, StillOut};
+use cmwq_engine::{Engine, Full, Receipt, Shared, StillOut};
 use cmwq_lock::{Drawn, NotYet, Opener, Pass};
 use cmwq_table::Machine;
 use cmwq_types::{Instr, Place, Reply, WorkId, WorkState};
 use std::alloc::Global;
 use std::process::Abort;
-use std::sync::{Barrier, Wait};
-use std::thread::{self, Threads, join};
-use std::time::{Clock, Duration};
+use std::sync::Wait;
+use std::thread::Threads;
+use std::time::Clock;
 
 /// A work that burns once, on a queue of `max_active` 1.
 pub(crate) const ONE_WORK: &[u8] =
@@ -220,98 +220,19 @@ fn check_meeting<M: Machine>(rt: &impl Abort, alloc: Global) {
     let _p0 = issued(rt, &shared, d0, Instr::State(A), Ok(receipt(2, 2, LISTED)));
 }
 
-/// With 64 callers out, one more is refused.
-fn check_64_out<M: Machine>(rt: &impl Abort, alloc: Global) {
-    let (shared, mut opener) = opened::<M>(rt, alloc, ONE_WORK, 3);
-    for _ in 0u64..64 {
-        let _stays_out = shared.pass(&mut opener).expect(rt, "fewer than 64 are out");
-    }
-    same(rt, "64 passes out", shared.pass(&mut opener).is_err(), true);
-}
-
-/// Whether the work that was asked for is pending.
-fn is_pending(outcome: Result<Receipt, IssueError>) -> bool {
-    match outcome {
-        Ok(receipt) => matches!(receipt.reply, Reply::Found(state) if state.place.is_some()),
-        Err(_) => false,
-    }
-}
-
-/// Asks for the work until it is pending, at most 10,000 times, with a millisecond's sleep after each. Whether it
-/// came to be.
-fn sees_pending<M: Machine, R: Wait + Clock>(
-    rt: &R,
-    shared: &Shared<M>,
-    pass: Pass<Engine<M>>,
-    work: WorkId,
-) -> (Pass<Engine<M>>, bool)
-    requires { IsPassOf shared.now pass }
-    ensures { IsPassOf shared.now result.0 }
-{
-    let mut pass = pass;
-    for _ in 0..10_000 {
-        let (back, outcome) = shared.issue(rt, pass, Instr::State(work));
-        pass = back;
-        if is_pending(outcome) {
-            return (pass, true);
-        }
-        thread::sleep(rt, Duration::from_millis(1));
-    }
-    (pass, false)
-}
-
-/// Queues its own work once both threads are there, and waits for the other's to be pending.
-fn queue_and_see<M: Machine, R: Wait + Clock>(
-    rt: &R,
-    start: &Barrier,
-    shared: &Shared<M>,
-    pass: Pass<Engine<M>>,
-    own: WorkId,
-    other: WorkId,
-) -> (Pass<Engine<M>>, bool)
-    requires { IsPassOf shared.now pass }
-    ensures { IsPassOf shared.now result.0 }
-{
-    start.wait(rt);
-    let (pass, _) = shared.issue(rt, pass, Instr::Queue(own, 0));
-    sees_pending(rt, shared, pass, other)
-}
-
-/// Two threads, each with a work of its own, each of which sees the other's.
-fn both_see<M: Machine + Send + Sync, R: Threads + Wait + Clock + Abort + Sync>(
-    rt: &R,
-    shared: &Shared<M>,
-    one: Pass<Engine<M>>,
-    other: Pass<Engine<M>>,
-) -> (Pass<Engine<M>>, Pass<Engine<M>>)
-    requires one { IsPassOf shared.now one }
-    requires other { IsPassOf shared.now other }
-    ensures one { IsPassOf shared.now result.0 }
-    ensures other { IsPassOf shared.now result.1 }
-{
-    let start = Barrier::new(2);
-    let start = &start;
-    let ((one, first), (other, second)) = join(
-        rt,
-        move || queue_and_see(rt, start, shared, one, A, B),
-        move || queue_and_see(rt, start, shared, other, B, A),
-    );
-    same(
-        rt,
-        "each sees the other's work",
-        (first, second),
-        (true, true),
-    );
-    (one, other)
-}
-
 /// Two threads see each other's work, their callers meet, and both serve on.
 fn check_seeing<M: Machine + Send + Sync, R: Threads + Wait + Clock + Abort + Sync>(
     rt: &R,
     alloc: Global,
 ) {
     let (shared, opener, p0, p1) = with_two_passes::<M>(rt, alloc, TWO_WORKS, 20_004);
-    let (p0, p1) = both_see(rt, &shared, p0, p1);
+    let parts = (
+        Part::See { own: A, other: B },
+        Part::See { own: B, other: A },
+    );
+    let (p0, p1, done) = at_once(rt, &shared, p0, p1, parts);
+    let want = (Done::Sees(true), Done::Sees(true));
+    same(rt, "each sees the other's work", done, want);
     let (p0, p1) = shared.meet(p0, p1);
     let (p0, first) = shared.issue(rt, p0, Instr::State(B));
     let (p1, second) = shared.issue(rt, p1, Instr::State(A));
@@ -326,18 +247,12 @@ fn check_seeing<M: Machine + Send + Sync, R: Threads + Wait + Clock + Abort + Sy
     assert!(rt; last.map(|entry| entry.caller).eq([1, 0].iter().copied()));
 }
 
-/// Two callers issue in the order of their tickets; one issues on after a meeting; a 65th is refused; two threads see each other's work pending, and meet.
-fn check_callers<M: Machine + Send + Sync, R: Threads + Wait + Clock + Abort + Sync>(
+/// Two callers issue in the order of their tickets; one issues on after a meeting; two threads see each other's work pending, and meet.
+pub(crate) fn check_callers<M: Machine + Send + Sync, R: Threads + Wait + Clock + Abort + Sync>(
     rt: &R,
     alloc: Global,
 ) {
     check_order::<M>(rt, alloc);
     check_meeting::<M>(rt, alloc);
-    check_64_out::<M>(rt, alloc);
     check_seeing::<M, R>(rt, alloc);
-}
-
-#[test]
-fn callers_of_a_shared_engine_get_on(rt: HostRuntime) {
-    check_callers::<Core, HostRuntime>(&rt, rt.alloc());
 }

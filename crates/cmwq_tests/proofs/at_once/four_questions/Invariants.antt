@@ -1,5 +1,5 @@
 use Rattle.cmwq_engine.specs.Shared.{IsPassOf}
-use Rattle.cmwq_tests.proofs.filling.four_questions.Given as goal
+use Rattle.cmwq_tests.proofs.at_once.four_questions.Given as goal
 
 abbrev pub invariant-loop : goal.invariant-loop
 invariant-loop g l = IsPassOf l.shared l.pass
