@@ -234,6 +234,7 @@ def byte_faults(streams, lines):
     for use in ((line, hostile.EVERY) for line in lines):
         whole, counts = streams.run(use, "bytes 0")
         for kind, ends in (("read", hostile.READ), ("write", hostile.WRITE)):
+            faults += [] if counts[kind] else [("single bytes", use, f"has no {kind} that could fail")]
             for number in range(1, counts[kind] + 1, max(counts[kind] // 40, 1)):
                 outcome, _ = streams.run(use, f"{kind} {number} bytes")
                 wrote = b"" if kind == "read" else whole.output[: number - 1]
@@ -245,7 +246,7 @@ def byte_faults(streams, lines):
 def block_faults(streams, lines):
     """What is wrong where an output should go out a block at a time, and so many bytes of it before the third."""
     faults = []
-    for line, least in lines.items():
+    for line, least in dict(lines).items():
         whole, counts = streams.run((line, ""))
         cut, _ = streams.run((line, ""), "write 3")
         found = file_faults((line, ""), streams, cut, whole, hostile.WRITE)
@@ -254,7 +255,7 @@ def block_faults(streams, lines):
     return faults
 
 
-def all_faults(program, uses, paths, endless, at_once=(), by_bytes=(), in_blocks={}):
+def all_faults(program, uses, paths, endless, at_once=(), by_bytes=(), in_blocks=()):
     """What is wrong, each fault with its situation and its command line."""
     faults = []
     with tempfile.TemporaryDirectory(prefix="streams-") as room:

@@ -152,15 +152,16 @@ def check_streams(room):
 def check_single_bytes(room):
     """What each stand-in does where a read or a write of one byte fails, and which goes out in blocks."""
     reads = "{ char byte; long count; while ((count = read(0, &byte, 1)) > 0); if (count < 0) FAILED; }"
+    well = reads.replace("FAILED", 'return said("read\\n", 3)')
     for words, is_well in [
         ({}, True),
-        ({"READS": reads.replace("FAILED", 'return said("read\\n", 3)')}, True),
+        ({"READS": "0"}, False),
         ({"READS": reads.replace("FAILED", ";")}, False),
         ({"READS": reads.replace("FAILED", '{ write(1, "o", 1); return said("read\\n", 3); }')}, False),
         ({"UNWRITTEN": "return 0"}, False),
         ({"UNWRITTEN": '{ write(out, rest, 1); return said("write\\n", 3); }'}, False),
     ]:
-        found = hostile_streams.all_faults(built(room, **words), [], {}, {}, by_bytes=["run -"])
+        found = hostile_streams.all_faults(built(room, **{"READS": well, **words}), [], {}, {}, by_bytes=["run -"])
         assert bool(found) != is_well, (words, found)
     for lines, least, is_well in [("x" * 200, 2, True), ("x" * 200, 3, False), ("x" * 20, 2, False)]:
         found = hostile_streams.all_faults(built(room, LINES=f'"{lines}"'), [], {}, {}, in_blocks={"run x": least})
