@@ -1,7 +1,7 @@
 use Rattle.std.proofs.Common.{◌≡◌, ◌+◌, ◌*◌, length}
 use Rattle.cmwq_types.specs.declared.limits.TheConstants.{MAX_CPUS}
-use Rattle.cmwq_records.specs.Heads.{AreHeads}
-use Rattle.cmwq_records.proofs.records.Records.heads.Given as goal
+use Rattle.cmwq_plain.specs.Heads.{AreHeads}
+use Rattle.cmwq_plain.proofs.records.Records.heads.Given as goal
 
 abbrev pub invariant-loop-pool : goal.invariant-loop-pool
 invariant-loop-pool l = record {

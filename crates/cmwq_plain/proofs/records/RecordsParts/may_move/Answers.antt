@@ -1,8 +1,8 @@
 use Rattle.std.proofs.Common.{◌≡◌, true, sym, ap, ◌∙◌}
 use Rattle.std.specs.Prelude.{is_some}
-use Rattle.cmwq_records.specs.Rest.{is_at_rest}
-use Rattle.cmwq_records.proofs.RestLemmas.{move-none}
-use Rattle.cmwq_records.proofs.records.RecordsParts.may_move.Goals as goal
+use Rattle.cmwq_plain.specs.Rest.{is_at_rest}
+use Rattle.cmwq_plain.proofs.RestLemmas.{move-none}
+use Rattle.cmwq_plain.proofs.records.RecordsParts.may_move.Goals as goal
 
 pub returns-then-is_at_rest-clause-covered : goal.returns-then-is_at_rest-clause-covered
 returns-then-is_at_rest-clause-covered c = λ pool below moves.

@@ -1,5 +1,5 @@
 //! Records of a machine at rest: nothing is pending, and nothing runs.
-ghost use Rattle.cmwq_records.specs.Rest.{is_at_rest};
+ghost use Rattle.cmwq_plain.specs.Rest.{is_at_rest};
 ghost use Rattle.std.specs.List.{list_all};
 ghost use Rattle.std.specs.Prelude.{◌≡◌, is_none};
 

@@ -11,7 +11,7 @@ use Rattle.cmwq_table.specs.State.{State, is_unbound, pending_at, pool_count, ru
 use Rattle.cmwq_table.specs.declared.state.Pending.{Pending}
 use Rattle.cmwq_table.specs.declared.state.Running.{Running}
 use Rattle.cmwq_parts.specs.SettledTicks.{AreSettled, IsSettled, ticks}
-use Rattle.cmwq_records.specs.Rest.{is_at_rest}
+use Rattle.cmwq_plain.specs.Rest.{is_at_rest}
 
 both : (a b : Bool) → (a && b) ≡ true → (a ≡ true) × (b ≡ true)
 both true b is = (refl, is)

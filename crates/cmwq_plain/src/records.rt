@@ -34,7 +34,7 @@ pub struct Records {
 }
 
 impl Model for Records {
-    ghost use Rattle.cmwq_records.specs.RecordLayout.{IsLaidOut};
+    ghost use Rattle.cmwq_plain.specs.RecordLayout.{IsLaidOut};
     ghost use Rattle.cmwq_table.specs.Ready.{Loaded};
     ghost use Rattle.std.specs.Prelude.{vec_capacity};
 

@@ -8,10 +8,10 @@ use Rattle.cmwq_table.specs.Counts.{burns}
 use Rattle.cmwq_table.specs.Moves.{burned}
 use Rattle.cmwq_table.specs.Ready.{Loaded, holding}
 use Rattle.cmwq_table.specs.declared.state.Running.{Running}
-use Rattle.cmwq_records.specs.BurningHeads.{burns_beside}
-use Rattle.cmwq_records.proofs.RestLemmas.{burned-none}
-use Rattle.cmwq_records.proofs.TickLemmas.{burned-by_heads, length-burned}
-use Rattle.cmwq_records.proofs.records.Records.burn_all.Goals as goal
+use Rattle.cmwq_plain.specs.BurningHeads.{burns_beside}
+use Rattle.cmwq_plain.proofs.RestLemmas.{burned-none}
+use Rattle.cmwq_plain.proofs.TickLemmas.{burned-by_heads, length-burned}
+use Rattle.cmwq_plain.proofs.records.Records.burn_all.Goals as goal
 
 abbrev with_running : Loaded → List (Option Running) → Loaded
 with_running m rs = holding m.scenario (record m.state { running = rs })

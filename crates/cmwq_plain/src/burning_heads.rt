@@ -1,6 +1,6 @@
 //! A tick of the works that have a CPU, once the head of each pool is known.
-ghost use Rattle.cmwq_records.specs.BurningHeads.{burns_beside};
-ghost use Rattle.cmwq_records.specs.Heads.{AreHeads};
+ghost use Rattle.cmwq_plain.specs.BurningHeads.{burns_beside};
+ghost use Rattle.cmwq_plain.specs.Heads.{AreHeads};
 ghost use Rattle.cmwq_table.specs.Counts.{burns};
 ghost use Rattle.cmwq_table.specs.Moves.{burned, one_less};
 ghost use Rattle.cmwq_types.specs.Scenario.{pool_count};

@@ -1,8 +1,8 @@
 use Rattle.std.proofs.Common.{◌≡◌, ℕ, ◌+◌, true, sym, ap, ◌∙◌}
 use Rattle.cmwq_table.specs.Ready.{Loaded, holding}
-use Rattle.cmwq_records.specs.Rest.{is_at_rest}
-use Rattle.cmwq_records.proofs.RestLemmas.{rest-settled, rest-ticks}
-use Rattle.cmwq_records.proofs.records.RecordsParts.pass.Goals as goal
+use Rattle.cmwq_plain.specs.Rest.{is_at_rest}
+use Rattle.cmwq_plain.proofs.RestLemmas.{rest-settled, rest-ticks}
+use Rattle.cmwq_plain.proofs.records.RecordsParts.pass.Goals as goal
 
 pub returns-then-is_at_rest-clause-settled : goal.returns-then-is_at_rest-clause-settled
 returns-then-is_at_rest-clause-settled c =

@@ -7,8 +7,8 @@ use Rattle.cmwq_table.specs.Counts.{burns, first_runnable, is_runnable, is_some_
 use Rattle.cmwq_table.specs.Moves.{burned, one_less}
 use Rattle.cmwq_table.specs.State.{State, is_high, pool_count}
 use Rattle.cmwq_table.specs.declared.state.Running.{Running}
-use Rattle.cmwq_records.specs.BurningHeads.{burns_beside}
-use Rattle.cmwq_records.specs.Heads.{AreHeads}
+use Rattle.cmwq_plain.specs.BurningHeads.{burns_beside}
+use Rattle.cmwq_plain.specs.Heads.{AreHeads}
 
 -- tests that agree burn alike
 burned-agree : (f g : ℕ → Option Running → Bool) → ((w : ℕ) (r : Option Running) → f w r ≡ g w r) → (w : ℕ) (rs : List (Option Running)) → burned f w rs ≡ burned g w rs

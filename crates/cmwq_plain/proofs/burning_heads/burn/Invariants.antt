@@ -1,7 +1,7 @@
 use Rattle.std.proofs.Common.{◌≡◌, ◌++◌, take, drop}
 use Rattle.cmwq_table.specs.Moves.{burned}
-use Rattle.cmwq_records.specs.BurningHeads.{burns_beside}
-use Rattle.cmwq_records.proofs.burning_heads.burn.Given as goal
+use Rattle.cmwq_plain.specs.BurningHeads.{burns_beside}
+use Rattle.cmwq_plain.proofs.burning_heads.burn.Given as goal
 
 -- what was written, and what is left once it burns, make the whole
 abbrev pub invariant-loop-w : goal.invariant-loop-w
