@@ -1,5 +1,0 @@
-use Rattle.cmwq_events_laws.proofs.OverlapLemmas.{never_overlaps}
-use Rattle.cmwq_events_laws.proofs.executions_of_a_task_do_not_overlap.Goals as goal
-
-pub returns : goal.returns
-returns c = never_overlaps c.queues_have_at_most_one_rescuer.ensures

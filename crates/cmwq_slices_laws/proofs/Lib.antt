@@ -1,3 +1,0 @@
-pub mod BurnLemmas
-pub mod LengthLemmas
-pub mod OverlapLemmas

@@ -1,4 +1,0 @@
-mod CountLemmas
-mod DoerLemmas
-mod EventLemmas
-mod RunLemmas

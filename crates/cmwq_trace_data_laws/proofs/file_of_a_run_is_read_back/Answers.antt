@@ -1,5 +1,0 @@
-use Rattle.cmwq_trace_data_laws.proofs.RunLemmas.{tells_each_run}
-use Rattle.cmwq_trace_data_laws.proofs.file_of_a_run_is_read_back.Goals as goal
-
-pub returns : goal.returns
-returns c = tells_each_run c.time_never_falls.ensures c.file_is_read_back.ensures
