@@ -1,2 +1,4 @@
+pub mod Drivers
 pub mod Examples
 pub mod Statuses
+pub mod Told

@@ -3,7 +3,7 @@ use Rattle.std.specs.Fmt.{digits}
 use Rattle.cmwq_table.specs.Table.{table}
 use Rattle.cmwq_orders.specs.Orders.{taken}
 use Rattle.cmwq_explored.specs.Found.{found_text}
-use Rattle.cmwq_explored_examples.proofs.examples.who_has_not_ended_is_told_last.Goals as goal
+use Rattle.cmwq_command_examples.proofs.exploring.who_has_not_ended_is_told_last.Goals as goal
 
 pub returns-clause-waits : goal.returns-clause-waits
 unfolding table taken found_text digits

@@ -1,7 +1,7 @@
 use Rattle.std.proofs.Common.{refl}
 use Rattle.std.specs.Fmt.{digits}
 use Rattle.cmwq_explored.specs.Answers.{gave_up_line, whole_line}
-use Rattle.cmwq_explored_examples.proofs.examples.answers_count_what_was_asked_for.Goals as goal
+use Rattle.cmwq_command_examples.proofs.exploring.answers_count_what_was_asked_for.Goals as goal
 
 pub returns-clause-holds : goal.returns-clause-holds
 unfolding whole_line gave_up_line digits

@@ -1,4 +1,4 @@
-//! Worked examples, which were put down by hand.
+//! Worked examples of what `explore` writes, put down by hand: the text of an order, the line of an answer, or a fault.
 #![tactic(auto, unfolding(cmwq_explored::specs::Asking::fault_of, cmwq_explored::specs::Asking::question_asked))]
 
 ghost use Rattle.cmwq_examples.specs.Declare.{flush};
@@ -8,8 +8,8 @@ ghost use Rattle.cmwq_explored.specs.Answers.{gave_up_line, whole_line, whole_ou
 ghost use Rattle.cmwq_explored.specs.Asking.{fault_of};
 ghost use Rattle.cmwq_explored.specs.declared.error.ExploreError.TheVariants as error;
 ghost use Rattle.cmwq_explored.specs.declared.outcome.Outcome.TheVariants as outcome;
-ghost use Rattle.cmwq_explored_examples.specs.Told.{IsTold, notes_behind, poll, poll_text, tally, text_behind};
-ghost use Rattle.cmwq_order_examples.specs.Drivers.{frozen_driver, goes, lone_driver, one_before_other, steps};
+ghost use Rattle.cmwq_command_examples.specs.Told.{IsTold, notes_behind, poll, poll_text, tally, text_behind};
+ghost use Rattle.cmwq_command_examples.specs.Drivers.{frozen_driver, goes, lone_driver, one_before_other, steps};
 ghost use Rattle.cmwq_streams.specs.declared.error.PlayError.TheVariants as play;
 ghost use Rattle.std.specs.Borrow.{Bor};
 ghost use Rattle.std.specs.Prelude.{◌≡◌, ◌∷◌, ◌++◌, [], None, Some, List, codes, ℕ};

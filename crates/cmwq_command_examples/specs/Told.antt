@@ -7,7 +7,7 @@ use Rattle.cmwq_orders.specs.Orders.{reached}
 use Rattle.cmwq_orders.specs.declared.choice.Before.{Before}
 use Rattle.cmwq_orders.specs.declared.choice.Choice.{Choice}
 use Rattle.cmwq_orders.specs.declared.question.Question.{Question}
-use Rattle.cmwq_order_examples.specs.Drivers.{if_reached, poll_driver}
+use Rattle.cmwq_command_examples.specs.Drivers.{if_reached, poll_driver}
 use Rattle.cmwq_explore.specs.Retracing.{rests, steps_of}
 use Rattle.cmwq_explore.specs.declared.exploring.Tally.{Tally}
 use Rattle.cmwq_exploration.specs.declared.exploration.Exploration.{Exploration}

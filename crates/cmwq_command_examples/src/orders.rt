@@ -3,7 +3,7 @@
 #![tactic(auto, unfolding(cmwq_table::specs::Table::table, cmwq_orders::specs::Orders::taken, cmwq_orders::specs::Questions::fails))]
 
 ghost use Rattle.cmwq_examples.specs.Declare.{cancel, cancel_sync, disable, enqueue, times};
-ghost use Rattle.cmwq_order_examples.specs.Drivers.{comes_to, disable_and_wait, ended_behind, fires, frozen_driver, goes, lone_driver, one_before_other, one_waits_for_another, places_behind, poll_driver, steps, ticks, timer_driver, two_sleepers, ways_behind};
+ghost use Rattle.cmwq_command_examples.specs.Drivers.{comes_to, disable_and_wait, ended_behind, fires, frozen_driver, goes, lone_driver, one_before_other, one_waits_for_another, places_behind, poll_driver, steps, ticks, timer_driver, two_sleepers, ways_behind};
 ghost use Rattle.cmwq_types.specs.Faults.{IsValid};
 ghost use Rattle.cmwq_types.specs.declared.instr.Instr.TheVariants as instr;
 ghost use Rattle.std.specs.Prelude.{◌≡◌, ◌∷◌, [], None, Some, false, true};
