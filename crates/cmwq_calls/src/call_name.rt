@@ -8,10 +8,6 @@ use crate::stores::StoreCall;
 use crate::streams::StreamCall;
 use crate::texts::TextCall;
 use cmwq_debug::{Command, EventKind};
-use cmwq_drawing::{Drawing, Form, Span, Style};
-use cmwq_question::{Inquiry, Looks, Question};
-use cmwq_reports::{Format, Times, TraceForm};
-use cmwq_tasks::{RunKind, Task};
 use cmwq_types::WorkId;
 
 /// A call, by what it is made on.
@@ -25,55 +21,6 @@ pub(crate) enum CallName {
     Debug,
     Play,
 }
-
-/// The work that is asked about.
-const WORK: Question<'static> = Question::Work("b");
-
-/// The whole run, as text.
-const DRAWN: Drawing<'static> = Drawing {
-    settle: false,
-    fold: false,
-    span: Span {
-        from: None,
-        to: None,
-    },
-    works: None,
-    form: Form::Text,
-};
-
-/// The settled run, as text.
-const SETTLED: Drawing<'static> = Drawing {
-    settle: true,
-    ..DRAWN
-};
-
-/// Some ticks of the run, as text.
-const SOME: Drawing<'static> = Drawing {
-    span: Span {
-        from: Some(2),
-        to: Some(9),
-    },
-    ..DRAWN
-};
-
-/// A picture with a style of its own.
-const STYLED: Form<'static> = Form::Svg(Style {
-    scale: Some(5),
-    id: Some("one"),
-});
-
-/// Why the work waits, at the settled positions of the run.
-const ASKED: Inquiry<'static> = Inquiry {
-    question: WORK,
-    looks: Looks::Settled,
-    settle: false,
-};
-
-/// What the first flush waits for, at the settled positions of the run.
-const FLUSHED: Inquiry<'static> = Inquiry {
-    question: Question::Flush(0),
-    ..ASKED
-};
 
 /// The word for a history.
 const HISTORY: &str = "history";
@@ -194,135 +141,10 @@ fn command_of(word: &str) -> Option<Command> {
 
 fn stream_call_of(word: &str) -> Option<StreamCall> {
     match word {
+        "run" => Some(StreamCall::Run),
+        "list_text" => Some(StreamCall::ListText),
         "to_image" => Some(StreamCall::ToImage),
-        "trace-dat" => Some(StreamCall::TraceData),
-        "sweep" => Some(StreamCall::Sweep),
-        "check" => Some(StreamCall::Check),
-        "new" => Some(StreamCall::New),
-        "explore" => Some(StreamCall::Explore),
-        _ => Some(StreamCall::Do(task_of(word)?)),
-    }
-}
-
-/// The task whose call has this name.
-fn task_of(word: &str) -> Option<Task<'static>> {
-    match word {
-        "settle_text" => Some(Task::Settle),
-        "list_text" => Some(Task::List),
-        "from_image" => Some(Task::Show),
-        _ => telling_of(word),
-    }
-}
-
-/// The task that tells of a run, by the name of its call.
-fn telling_of(word: &str) -> Option<Task<'static>> {
-    if let Some(kind) = run_kind_of(word) {
-        return Some(Task::Run(kind));
-    }
-    if let Some(drawing) = drawing_of(word) {
-        return Some(Task::Draw(drawing));
-    }
-    if let Some(inquiry) = inquiry_of(word) {
-        return Some(Task::Why(inquiry));
-    }
-    if let Some(times) = times_of(word) {
-        return Some(Task::Times(times));
-    }
-    Some(Task::Trace(trace_form_of(word)?))
-}
-
-fn run_kind_of(word: &str) -> Option<RunKind> {
-    match word {
-        "run" => Some(RunKind::Plain),
-        "run_told" => Some(RunKind::Told),
-        "run_settled" => Some(RunKind::Settled),
-        "run_told-settled" => Some(RunKind::ToldSettled),
-        _ => None,
-    }
-}
-
-fn drawing_of(word: &str) -> Option<Drawing<'static>> {
-    match word {
-        "draw" => Some(DRAWN),
-        "draw-settled" => Some(SETTLED),
-        "draw-some" => Some(SOME),
-        "draw-svg" => Some(Drawing {
-            form: STYLED,
-            ..DRAWN
-        }),
-        "draw-settled-svg" => Some(Drawing {
-            form: STYLED,
-            ..SETTLED
-        }),
-        "draw-some-svg" => Some(Drawing {
-            form: STYLED,
-            ..SOME
-        }),
-        "draw-folded" => Some(Drawing {
-            fold: true,
-            ..DRAWN
-        }),
-        "draw-works" => Some(Drawing {
-            works: Some("b"),
-            ..DRAWN
-        }),
-        _ => None,
-    }
-}
-
-fn inquiry_of(word: &str) -> Option<Inquiry<'static>> {
-    match word {
-        "why" => Some(ASKED),
-        "why-every" => Some(Inquiry {
-            looks: Looks::Every,
-            ..ASKED
-        }),
-        "why-at" => Some(Inquiry {
-            looks: Looks::At(9),
-            ..ASKED
-        }),
-        "why-time" => Some(Inquiry {
-            looks: Looks::Time(3),
-            ..ASKED
-        }),
-        "why-settled" => Some(Inquiry {
-            settle: true,
-            ..ASKED
-        }),
-        _ => flush_inquiry_of(word),
-    }
-}
-
-fn flush_inquiry_of(word: &str) -> Option<Inquiry<'static>> {
-    match word {
-        "why-flush" => Some(FLUSHED),
-        "why-flush-every" => Some(Inquiry {
-            looks: Looks::Every,
-            ..FLUSHED
-        }),
-        "why-flush-at" => Some(Inquiry {
-            looks: Looks::At(24),
-            ..FLUSHED
-        }),
-        _ => None,
-    }
-}
-
-fn times_of(word: &str) -> Option<Times> {
-    let (format, whom) = match word {
-        "times" => (Format::Text, false),
-        "times-json" => (Format::Json, false),
-        "times-whom" => (Format::Text, true),
-        _ => return None,
-    };
-    Some(Times { format, whom })
-}
-
-fn trace_form_of(word: &str) -> Option<TraceForm> {
-    match word {
-        "trace-json" => Some(TraceForm::Json),
-        "trace-lines" => Some(TraceForm::Lines),
-        "trace-text" => Some(TraceForm::Text),
+        "from_image" => Some(StreamCall::FromImage),
         _ => None,
     }
 }

@@ -1,4 +1,4 @@
-//! What no clause says of machines and of what stands on them, for both bodies. One test names them: each that does costs half a minute of proof.
+//! What no clause says of machines and of what stands on them. One test names them: each that does costs half a minute of proof.
 use crate::{checkpoints, filling, machines, shared};
 use cmwq_core::Core;
 use cmwq_plain::Plain;
@@ -9,13 +9,13 @@ use std::sync::Wait;
 use std::thread::Threads;
 use std::time::Clock;
 
-/// Both bodies copy, look and load, and lend checkpoints; over the first one callers of a shared engine get on, and fill a history.
+/// Both bodies copy, and debuggers over both lend checkpoints; over the first one callers of a shared engine get on, and fill a history.
 fn check_bodies<M: Machine + Send + Sync, Other: Machine, R: Threads + Wait + Clock + Abort + Sync>(
     rt: &R,
     alloc: Global,
 ) {
-    machines::check_machine::<M>(rt, alloc);
-    machines::check_machine::<Other>(rt, alloc);
+    machines::check_copy::<M>(rt, alloc);
+    machines::check_copy::<Other>(rt, alloc);
     checkpoints::check_way::<M>(rt, alloc);
     checkpoints::check_way::<Other>(rt, alloc);
     shared::check_callers::<M, R>(rt, alloc);

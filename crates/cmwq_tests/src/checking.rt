@@ -1,4 +1,4 @@
-//! The one assertion. A row of a table costs less to prove where it only calls this.
+//! The assertion that nearly all tests make. A row of a table costs less to prove where it only calls this.
 use std::fmt::Debug;
 use std::process::Abort;
 

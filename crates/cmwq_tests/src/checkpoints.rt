@@ -3,7 +3,7 @@ ghost use Rattle.cmwq_types.specs.declared.limits.TheConstants.{MAX_WORKS};
 ghost use Rattle.std.specs.Prelude.{◌≤◌, length};
 
 use crate::checking::same;
-use crate::machines::scenario;
+use crate::examples::scenario_of;
 use cmwq_debug::Debugger;
 use cmwq_debug_lines::answer;
 use cmwq_table::Machine;
@@ -109,10 +109,10 @@ fn check_checkpoints<M: Machine>(rt: &impl Abort, debugger: &Debugger<M>, way: W
 
 /// Goes the long way, and compares what is said and which checkpoints there are: they stand further apart on a long way.
 pub(crate) fn check_way<M: Machine>(rt: &impl Abort, alloc: Global) {
-    let scenario = scenario(rt, alloc, A_LONG_WAIT);
+    let scenario = scenario_of(rt, alloc, A_LONG_WAIT);
     let instrs = instrs_of(rt, alloc, &scenario);
     if instrs.len() > MAX_HISTORY as usize || scenario.works.len() > MAX_WORKS {
-        return;
+        panic!(rt; "the long way is within the limits");
     }
     let opened = Debugger::open(alloc, &scenario, instrs);
     let mut debugger: Debugger<M> = opened.expect(rt, "the long way");

@@ -1,5 +1,5 @@
-//! Tests of what no clause says and no transcript shows: readers and writers that fail or have no end, copies and looks, checkpoints,
-//! callers in threads of their own, and which request each command line is.
+//! Tests of what no clause says and no transcript shows: the lock under load, callers and actors in threads of their own, checkpoints,
+//! worked examples of copies, lists, timers and the lock.
 #![tactic(auto)]
 
 #[cfg(test)]
@@ -7,23 +7,19 @@ mod at_once;
 #[cfg(test)]
 mod bodies;
 #[cfg(test)]
-mod carried;
-#[cfg(test)]
 mod checking;
 #[cfg(test)]
 mod checkpoints;
-#[cfg(test)]
-mod command_lines;
-#[cfg(test)]
-mod commands;
-#[cfg(test)]
-mod debugging;
 #[cfg(test)]
 mod examples;
 #[cfg(test)]
 mod filling;
 #[cfg(test)]
 mod lists;
+#[cfg(test)]
+mod load;
+#[cfg(test)]
+mod lock_history;
 #[cfg(test)]
 mod machines;
 #[cfg(test)]
@@ -34,3 +30,5 @@ mod shared;
 mod streams;
 #[cfg(test)]
 mod timers;
+#[cfg(test)]
+mod turns;

@@ -1,14 +1,14 @@
 //! `play`: actors in threads of their own, and the texts that they leave.
-ghost use Rattle.cmwq_types.specs.Faults.{IsValid};
 ghost use Rattle.cmwq_types.specs.declared.limits.TheConstants.{MAX_LINES};
 ghost use Rattle.std.specs.Prelude.{◌≤◌, ⊤};
 
 use crate::checking::same;
-use crate::streams::{Failure, Output, reading_of, writing_to};
-use cmwq_actors::{Gate, OpenGate};
+use crate::examples::scenario_of;
+use crate::streams::{Failure, Output, writing_to};
+use cmwq_actors::Gate;
 use cmwq_interleaving::play;
-use cmwq_play::{Marked, PlayError, read_text, run};
-use cmwq_types::{MAX_LINES, Scenario};
+use cmwq_play::{Marked, PlayError, run};
+use cmwq_types::{Instr, Scenario, WorkId};
 use std::alloc::Global;
 use std::process::Abort;
 use std::sync::Wait;
@@ -79,13 +79,6 @@ impl Gate for Meeting {
     }
 }
 
-/// The scenario of the text.
-fn scenario_of(rt: &impl Abort, alloc: Global, text: &[u8]) -> Scenario
-    ensures { IsValid result }
-{
-    read_text(alloc, &mut Marked::new(reading_of(text, 4096))).expect(rt, "a scenario's text")
-}
-
 /// What the play answers, and the writer.
 fn played<'x, R: Threads + Wait + Clock + Sync + AllocGlobal + Abort, G: Gate>(
     rt: &'x R,
@@ -104,7 +97,7 @@ fn played<'x, R: Threads + Wait + Clock + Sync + AllocGlobal + Abort, G: Gate>(
 
 /// What running the text prints.
 fn printed(rt: &impl Abort, alloc: Global, text: &[u8]) -> Vec<u8> {
-    let mut reader = Marked::new(reading_of(text, 4096));
+    let mut reader = Marked::new(text);
     let mut writer = Marked::new(writing_to(alloc, 4096));
     run(alloc, &mut reader, &mut writer).expect(rt, "the text runs");
     writer.into_inner().taken
@@ -217,15 +210,6 @@ fn a_failing_writer_has_a_front_of_a_text(rt: HostRuntime) {
     }
 }
 
-#[test]
-fn without_actors_nothing_is_written(rt: HostRuntime) {
-    let output = writing_to(rt.alloc(), 4096);
-    let text = b"cpus 1\nworkers 1\nsteps 1\nflushes 0\n";
-    let (result, output) = played(&rt, text, 10, &OpenGate, output);
-    same(&rt, "no actors", result, Err(PlayError::Actors));
-    same(&rt, "no actors", output.calls, 0);
-}
-
 /// The text of sixteen actors that queue one work and ask.
 fn sixteen_actors(rt: &impl Abort, alloc: Global) -> String {
     let mut text = String::from_str(
@@ -250,6 +234,26 @@ fn lines_like(text: &[u8], line: &[u8]) -> usize {
         .count()
 }
 
+/// How often 15 of sixteen actors are told that their work is queued already, and all that none is busy; and the bytes of these lines.
+const ALL_TOLD: (usize, usize, usize) = (15, 16, 15 * 10 + 16 * 5);
+
+/// The scenario's actor has so many lines, and queues the work first.
+fn check_played(rt: &impl Abort, scenario: &Scenario, lines: usize) {
+    let given = scenario.actors.first().map(|played| played.lines.len());
+    same(rt, "lines", given, Some(lines));
+    let first = scenario
+        .actors
+        .first()
+        .and_then(|played| played.lines.first());
+    let instr = first.map(|line| line.instr);
+    same(
+        rt,
+        "the first line",
+        instr,
+        Some(Instr::Queue(WorkId(0), 0)),
+    );
+}
+
 #[test]
 fn sixteen_actors_at_once_leave_all_their_lines(rt: HostRuntime) {
     let text = sixteen_actors(&rt, rt.alloc());
@@ -261,13 +265,13 @@ fn sixteen_actors_at_once_leave_all_their_lines(rt: HostRuntime) {
         same(&rt, capacity, gate.late.load(Ordering::SeqCst), false);
         let left = scenario_of(&rt, rt.alloc(), &output.taken);
         same(&rt, capacity, left.actors.len(), 1);
-        let given = left.actors.first().map(|played| played.lines.len());
-        same(&rt, capacity, given, Some(lines));
+        check_played(&rt, &left, lines);
         let lines = printed(&rt, rt.alloc(), &output.taken);
         let told = (
             lines_like(&lines, b"0 already"),
             lines_like(&lines, b"0 no"),
+            lines.len(),
         );
-        same(&rt, capacity, capacity < 100 || told == (15, 16), true);
+        same(&rt, capacity, capacity < 100 || told == ALL_TOLD, true);
     }
 }

@@ -7,8 +7,7 @@ ghost use Rattle.cmwq_engine.specs.Shared.{IsDrawnOf, IsOpenerOf, IsPassOf};
 
 use crate::at_once::{Done, Part, at_once, is_pending};
 use crate::checking::same;
-use crate::examples::TWO_WORKS;
-use cmwq_asm::assemble;
+use crate::examples::{TWO_WORKS, scenario_of};
 use cmwq_engine::{Engine, Full, Receipt, Shared, StillOut};
 use cmwq_lock::{Drawn, NotYet, Opener, Pass};
 use cmwq_table::Machine;
@@ -55,7 +54,7 @@ pub(crate) fn opened<M: Machine>(
     ensures opener { IsOpenerOf result.0 result.1 }
     ensures first { next_of (opener_view result.1) ≡ 0 }
 {
-    let scenario = assemble(alloc, text).expect(rt, "a scenario's text");
+    let scenario = scenario_of(rt, alloc, text);
     Shared::open(alloc, &scenario, capacity).expect(rt, "memory is left")
 }
 

@@ -1,41 +1,8 @@
-//! Readers and writers that fail where they are told to.
+//! A writer that fails where it is told to.
 
 use std::alloc::Global;
 use std::io;
-use std::io::{Read, Write};
-
-/// A reader that gives at most some bytes a call, and may fail at one of its calls.
-#[derive(Drop)]
-pub(crate) struct Input<'a> {
-    /// What is left to read.
-    pub(crate) rest: &'a [u8],
-    /// How many bytes a call gives at most.
-    pub(crate) step: usize,
-    /// The number of the call that fails, from 1 on; 0 for none.
-    pub(crate) fails: usize,
-    /// Whether hashes follow without end.
-    pub(crate) endless: bool,
-    /// How many calls there were.
-    pub(crate) calls: usize,
-}
-
-impl Read for Input<'_> {
-    fn read(&mut self, buf: &mut [u8]) -> io::Result<usize> {
-        self.calls = self.calls.saturating_add(1);
-        if self.calls == self.fails {
-            return Err(io::Error::from(io::ErrorKind::Other));
-        }
-        if self.endless && self.rest.is_empty() {
-            buf.fill(b'#');
-            return Ok(buf.len());
-        }
-        let n = self.step.min(buf.len()).min(self.rest.len());
-        let (now, later) = self.rest.split_at(n);
-        buf[..n].copy_from_slice(now);
-        self.rest = later;
-        Ok(n)
-    }
-}
+use std::io::Write;
 
 /// How a writer fails at one of its calls.
 #[derive(Clone, Copy, Debug, PartialEq, Eq)]
@@ -77,17 +44,6 @@ impl Write for Output {
 
     fn flush(&mut self) -> io::Result<()> {
         Ok(())
-    }
-}
-
-/// A reader of the bytes that doesn't fail.
-pub(crate) fn reading_of(bytes: &[u8], step: usize) -> Input<'_> {
-    Input {
-        rest: bytes,
-        step,
-        fails: 0,
-        endless: false,
-        calls: 0,
     }
 }
 

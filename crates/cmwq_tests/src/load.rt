@@ -1,78 +1,17 @@
-//! 64 callers in several threads, each with many turns: what comes out is one history that has each caller's turns once, in its order.
-ghost use Rattle.cmwq_lock_tests.specs.declared.load.TheConstants.{ROOM};
-ghost use Rattle.std.proofs.Common.{lit≤};
+//! The lock under load, 64 callers in several threads, each with many turns: what comes out is one history that has each caller's turns
+//! once, in its order.
 ghost use Rattle.std.specs.List.{All};
-ghost use Rattle.std.specs.Prelude.{◌≡◌, ◌+◌, ◌<◌, ◌≤◌, ◌^◌, length, vec_capacity};
+ghost use Rattle.std.specs.Prelude.{◌+◌, ◌<◌, ◌^◌};
 ghost use Rattle.cmwq_lock.specs.Tokens.{IsDrawnOf, IsOpenerOf, IsPassOf, opener_view};
 ghost use Rattle.cmwq_lock.specs.Views.{next_of};
 
 use crate::checking::same;
-use cmwq_lock::{Call, Drawn, Kept, NotDrawn, NotDrawnWhy, NotYet, Opener, Pass, TicketLock};
+use crate::lock_history::{Enter, History, Turn, opened};
+use cmwq_lock::{Drawn, Kept, NotDrawn, NotDrawnWhy, NotYet, Opener, Pass, TicketLock};
 use std::alloc::Global;
 use std::process::Abort;
 use std::sync::{Barrier, Wait};
 use std::thread::{self, Threads};
-
-/// The most turns that a history has room for.
-const ROOM: usize = 800_000;
-
-/// A turn as the history has it: its ticket, its caller, and how many turns this caller had begun before.
-#[derive(Clone, Copy, Debug, PartialEq, Eq)]
-struct Turn {
-    ticket: u64,
-    caller: u32,
-    number: u32,
-}
-
-/// All turns, in the order in which they were taken.
-#[derive(Drop)]
-struct History {
-    turns: Vec<Turn>,
-}
-
-impl Kept for History {
-    type Origin = ();
-
-    type Entry = Turn;
-
-    ghost origin = { λ kept. tt };
-
-    ghost log = { λ kept. kept.turns.items };
-
-    ghost ticket = { λ turn. turn.ticket };
-
-    ghost caller = { λ turn. turn.caller };
-
-    ghost legal = { λ origin log. length log ≤ ROOM };
-
-    ghost sound = { λ kept. (length kept.turns.items ≤ ROOM) × (ROOM ≤ vec_capacity kept.turns) };
-
-    ghost empty_is_legal = { λ origin. lit≤ tt };
-
-    ghost sound_is_legal = { λ kept sound. sound.0 };
-}
-
-/// Enters a caller's turn of this number, if there is room.
-#[derive(Drop)]
-struct Enter {
-    number: u32,
-}
-
-impl Call<History> for Enter {
-    type Out = ();
-
-    ghost tells = { λ origin call before after ticket caller out. out ≡ tt };
-
-    fn apply(self, value: &mut History, ticket: u64, caller: u32) {
-        if value.turns.len() < ROOM {
-            value.turns.push_reserved(Turn {
-                ticket,
-                caller,
-                number: self.number,
-            });
-        }
-    }
-}
 
 /// Draws a ticket, again and again where another caller was faster. It says so, with a ticket that is drawn and a later one.
 fn drawn_at_last<R: Wait + Abort>(
@@ -115,7 +54,7 @@ fn one_turn<R: Wait + Abort>(
 {
     let drawn = drawn_at_last(rt, lock, pass);
     match lock.try_take(drawn, Enter { number }) {
-        Ok((pass, _, ())) => pass,
+        Ok((pass, _, _length)) => pass,
         Err(
             NotYet {
                 drawn,
@@ -248,9 +187,7 @@ fn history_of<R: Threads + Wait + Abort + Sync>(
     callers: usize,
     count: u32,
 ) -> Vec<Turn> {
-    let turns = Vec::with_capacity(alloc, ROOM).expect(rt, "memory is left");
-    let opened = TicketLock::open(alloc, History { turns });
-    let (lock, mut opener) = opened.expect(rt, "memory is left");
+    let (lock, mut opener) = opened(rt, alloc);
     let passes = passes_of(rt, alloc, &lock, &mut opener, 64);
     let groups = grouped(rt, &lock, passes, callers);
     let groups = all_turns(rt, &lock, groups, count);
@@ -284,14 +221,10 @@ fn check_load<R: Threads + Wait + Abort + Sync>(rt: &R, alloc: Global, callers: 
     }
 }
 
-/// 12,500 turns each, 100,000 a thread.
+/// Eight callers to a thread, 12,500 turns each, 100,000 a thread; and one to a thread, 50 turns each: with more threads than cores each
+/// turn waits longer for one certain thread.
 #[test]
-fn eight_threads_leave_one_history(rt: HostRuntime) {
+fn threads_leave_one_history(rt: HostRuntime) {
     check_load(&rt, rt.alloc(), 8, 12_500);
-}
-
-/// 2,000 turns each: with more threads than cores each turn waits longer for one certain thread.
-#[test]
-fn sixty_four_threads_leave_one_history(rt: HostRuntime) {
-    check_load(&rt, rt.alloc(), 64, 2_000);
+    check_load(&rt, rt.alloc(), 1, 50);
 }

@@ -1,5 +1,5 @@
 use Rattle.cmwq_lock.specs.Tokens.{IsOpenerOf}
-use Rattle.cmwq_lock_tests.proofs.load.history_of.Given as goal
+use Rattle.cmwq_tests.proofs.load.history_of.Given as goal
 
 abbrev pub invariant-loop-passes : goal.invariant-loop-passes
 invariant-loop-passes g l = record {

@@ -1,5 +1,5 @@
 use Rattle.cmwq_lock.specs.Tokens.{IsPassOf}
-use Rattle.cmwq_lock_tests.proofs.turns.three_turns.Given as goal
+use Rattle.cmwq_tests.proofs.load.drawn_at_last.Given as goal
 
 abbrev pub invariant-loop : goal.invariant-loop
 invariant-loop g l =

@@ -1,6 +1,6 @@
 use Rattle.std.specs.List.{All}
 use Rattle.cmwq_lock.specs.Tokens.{IsPassOf}
-use Rattle.cmwq_lock_tests.proofs.load.turns_of_all.Given as goal
+use Rattle.cmwq_tests.proofs.load.turns_of_all.Given as goal
 
 abbrev pub invariant-loop-pass : goal.invariant-loop-pass
 invariant-loop-pass g l = record {

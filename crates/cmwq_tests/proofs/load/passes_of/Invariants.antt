@@ -2,7 +2,7 @@ use Rattle.std.proofs.Common.{◌≡◌, ◌+◌}
 use Rattle.std.specs.List.{All}
 use Rattle.cmwq_lock.specs.Tokens.{IsOpenerOf, IsPassOf, opener_view}
 use Rattle.cmwq_lock.specs.Views.{next_of}
-use Rattle.cmwq_lock_tests.proofs.load.passes_of.Given as goal
+use Rattle.cmwq_tests.proofs.load.passes_of.Given as goal
 
 abbrev pub invariant-loop : goal.invariant-loop
 invariant-loop g l = record {
