@@ -1,11 +1,11 @@
 """Runs each command line of hostile.py's table over streams that fail: closed, full, with a reader that ends early, a folder, descriptors
-that don't block, reads and writes of one byte, and each read and each write in turn failing, of some command lines with reads and writes of one
-byte. The program then does exactly what it does
-over good streams, or it says `read` or `write`, in one line, with its status, and what it wrote is a front of the whole output. Over good
-streams help, the version, usage faults and a fault's line each go out in one write.
+that don't block, inputs that never end, reads and writes of one byte, and each read and each write in turn failing, of some command lines and of
+a session with reads and writes of one byte, and with writes that take none. The program then does exactly what it does over good streams, or it says
+`read` or `write`, in one line, with its status, and what it wrote is a front of the whole output. Behind `quit` nothing is read. Over good streams help, the version, usage faults and a fault's line each go out in one write.
 
     python3 gate/hostile_streams.py PROGRAM"""
 import os
+import pathlib
 import resource
 import subprocess
 import sys
@@ -16,9 +16,12 @@ sys.dont_write_bytecode = True
 sys.path.insert(0, os.path.dirname(os.path.realpath(__file__)))
 import hostile
 
-# More output than a pipe holds, 20,000 lines; and a work that is disabled 65,536 times, and then enabled.
+# The kernel's document's works under `max_active` 3; more output than a pipe holds, 20,000 lines; 131,070 lines; and a work that is disabled
+# 65,536 times, and then enabled.
 FILES = {
+    "max_active_3.cmwq": pathlib.Path(hostile.TOP, "scenarios/max_active_3.cmwq").read_text("utf-8"),
     "many.cmwq": hostile.FILES["long.cmwq"] + "state a * 20000\n",
+    "refused.cmwq": "cpus 1\nworkers 1\nsteps 1\nflushes 0\nactor t\nstep 9 * 65535\nstep 9 * 65535\n",
     "deepest.cmwq": "cpus 1\nworkers 1\nsteps 70000\nflushes 0\nqueue q max 1\nwork a q\nbody a\nfinish\nactor t\ndisable a * 65535\ndisable a\nenable a\n",
 }
 MOST = 200
@@ -36,10 +39,15 @@ ENDLESS |= {
 }
 # What goes out in one write, so that nothing of other programs stands in its midst: help, the version, usage faults, a fault's line and a verdict.
 AT_ONCE = ("", "--help", "help show", "asm --help", "--version", "walk a", "run", "list a b", "why a", "explore a --stuck --before x b --before b c --before c b", "run nosuch.cmwq", "show every.cmwq", "check nosuch.cmwq")
-# Command lines of which reads and writes of one byte fail, so that they fail anywhere; `cmwq_tests` does that with `run`, `list`, `asm`, `show` and `debug`.
-BY_BYTES = ("settle -", "run --settle -", "run --tell -", "run --tell --settle -", "why - b", "why - b --every", "why - --flush 0", "why - --flush 0 --every", "why - b --every --settle", "draw --settle -", "draw --settle --svg -")
+# Command lines of which reads and writes of one byte fail, so that they fail anywhere.
+BY_BYTES = ("run max_active_3.cmwq", "list max_active_3.cmwq", "asm max_active_3.cmwq out.image", "show every.image", "settle -", "run --settle -", "run --tell -", "run --tell --settle -", "why - b", "why - b --every", "why - --flush 0", "why - --flush 0 --every", "why - b --every --settle", "draw --settle -", "draw --settle --svg -")
+# How a read or a write fails there: with an error, or, of a write, by taking none.
+FAILURES = (("read", hostile.READ, ""), ("write", hostile.WRITE, ""), ("write", hostile.WRITE, " none"))
+# A session whose commands are read by single bytes, each of which fails in turn, and what is said to each command. And what stands behind `quit`.
+SESSION = ("debug max_active_3.cmwq", "step 1\nstep 1\nstep 1\n", [b"at 1 now 0\n", b"at 2 now 0\n", b"at 3 now 0\n"])
+BEHIND_QUIT = ("step\nquit\n", "step\nquit\nstep\n", "step\nquit\nst")
 # Command lines whose output goes out a block at a time, long before all of it is made, and how many bytes have gone out where the third write fails.
-IN_BLOCKS = {"why deepest.cmwq a": 8192, "why deepest.cmwq a --every": 8192}
+IN_BLOCKS = {"run refused.cmwq": 8192, "why deepest.cmwq a": 8192, "why deepest.cmwq a --every": 8192}
 # What is known to be otherwise, and isn't mended: of these situations these faults.
 KNOWN = {
     # FILE is opened as descriptor 0, so its end is the end of the commands.
@@ -227,19 +235,54 @@ def parted_faults(streams, lines):
     return [("good streams", (line, ""), f"says what it says in {count} writes") for line, count in counts.items() if count != 1]
 
 
+def made(streams, outcome):
+    """All that a command line has written: its output, and what stands in files that it made."""
+    return outcome.output + b"".join(it or b"" for _, it in sorted(hostile.changed(outcome, streams.before).items()))
+
+
 def byte_faults(streams, lines):
-    """What is wrong where each read and each write takes one byte, and one of them fails, some 40 of each in turn: a read before anything is
-    written, or a write behind what the writes before it took."""
+    """What is wrong where each read and each write takes one byte, and one of them fails, or a write takes none, some 40 of each in turn and the
+    last one: a read before anything is written, or a write behind what the writes before it took."""
     faults = []
     for use in ((line, hostile.EVERY) for line in lines):
         whole, counts = streams.run(use, "bytes 0")
-        for kind, ends in (("read", hostile.READ), ("write", hostile.WRITE)):
+        faults += [] if whole == streams.run(use)[0] else [("single bytes", use, "ends otherwise")]
+        for kind, ends, how in FAILURES:
             faults += [] if counts[kind] else [("single bytes", use, f"has no {kind} that could fail")]
-            for number in range(1, counts[kind] + 1, max(counts[kind] // 40, 1)):
-                outcome, _ = streams.run(use, f"{kind} {number} bytes")
-                wrote = b"" if kind == "read" else whole.output[: number - 1]
-                found = file_faults(use, streams, outcome, whole, ends) or ([] if outcome.output == wrote else [f"has written {len(outcome.output)} bytes"])
-                faults += [(f"single bytes, {kind} {number} failing", use, fault) for fault in found]
+            for number in sorted({*range(1, counts[kind] + 1, max(counts[kind] // 40, 1)), counts[kind]} - {0}):
+                wrote = b"" if kind == "read" else made(streams, whole)[: number - 1]
+                faults += byte_fault(streams, use, whole, (f"{kind} {number} bytes{how}", ends, wrote))
+    return faults
+
+
+def byte_fault(streams, use, whole, failing):
+    """What is wrong where this call fails, and it should end so and have written this."""
+    refused, ends, wrote = failing
+    outcome, _ = streams.run(use, refused)
+    found = file_faults(use, streams, outcome, whole, ends) or ([] if made(streams, outcome) == wrote else [f"has written {len(made(streams, outcome))} bytes"])
+    return [(f"single bytes, {refused} failing", use, fault) for fault in found]
+
+
+def session_faults(streams, line, commands, answers):
+    """What is wrong where each read of a session's commands fails in turn: all commands before it have been answered. And each write: the session ends."""
+    use = (line, commands)
+    whole, counts = streams.run(use, "bytes 0")
+    faults = [] if whole.output == b"".join(answers) else [("single bytes", use, f"says {whole.output}")]
+    for at in range(len(commands) + 1):
+        read = counts["read"] - len(commands) + at
+        faults += byte_fault(streams, use, whole, (f"read {read} bytes", hostile.READ, b"".join(answers[: commands[:at].count("\n")])))
+    for at, how in ((at, how) for at in range(len(whole.output)) for how in ("", " none")):
+        faults += byte_fault(streams, use, whole, (f"write {at + 1} bytes{how}", hostile.WRITE, whole.output[:at]))
+    return faults
+
+
+def quit_faults(streams, line, said, sessions):
+    """What is wrong where something stands behind `quit`, a byte a call and in blocks: each of these sessions says this, and behind `quit` nothing is read."""
+    reads, faults = streams.run((line, ""), "bytes 0")[1]["read"] - 1 + len(sessions[0]), []
+    for use, how in (((line, session), how) for session in sessions for how in ("bytes 0", "")):
+        outcome, counts = streams.run(use, how)
+        is_well = outcome[:3] == (0, said, b"") and (not how or counts["read"] == reads)
+        faults += [] if is_well else [("something behind quit", use, f"ends with {outcome[:3]}, after {counts['read']} reads")]
     return faults
 
 
@@ -255,7 +298,7 @@ def block_faults(streams, lines):
     return faults
 
 
-def all_faults(program, uses, paths, endless, at_once=(), by_bytes=(), in_blocks=()):
+def all_faults(program, uses, paths, endless, at_once=(), by_bytes=(), in_blocks=(), session=None):
     """What is wrong, each fault with its situation and its command line."""
     faults = []
     with tempfile.TemporaryDirectory(prefix="streams-") as room:
@@ -266,16 +309,17 @@ def all_faults(program, uses, paths, endless, at_once=(), by_bytes=(), in_blocks
             found = situation_faults(streams, use, whole) + call_faults(streams, use, whole, counts)
             faults += [(situation, use, fault) for situation, fault in found]
         faults += stated_faults(streams, paths, endless) + parted_faults(streams, at_once)
-        return faults + byte_faults(streams, by_bytes) + block_faults(streams, in_blocks)
+        faults += byte_faults(streams, by_bytes) + block_faults(streams, in_blocks)
+        return faults + (session_faults(streams, *session) + quit_faults(streams, session[0], session[2][0], BEHIND_QUIT) if session else [])
 
 
 def main(program):
     uses = [*hostile.all_uses(), ("run many.cmwq", ""), ("run --tell many.cmwq", "")]
-    found = all_faults(program, uses, PATHS, ENDLESS, AT_ONCE, BY_BYTES, IN_BLOCKS)
+    found = all_faults(program, uses, PATHS, ENDLESS, AT_ONCE, BY_BYTES, IN_BLOCKS, SESSION)
     faults = [f"{hostile.shown(use)}: {situation}: {fault}" for situation, use, fault in found if (situation, fault) not in KNOWN]
     faults += [f"{situation}: none {fault}, which stands among what is known" for situation, fault in KNOWN if (situation, fault) not in {(it[0], it[2]) for it in found}]
     print("".join(f"hostile streams: {fault}\n" for fault in faults), end="")
-    print(f"hostile streams: {len(uses) + len(PATHS) + len(ENDLESS) + len(AT_ONCE) + len(BY_BYTES) + len(IN_BLOCKS)} command lines, {len(KNOWN)} known faults, {len(faults)} others")
+    print(f"hostile streams: {len(uses) + len(PATHS) + len(ENDLESS) + len(AT_ONCE) + len(BY_BYTES) + len(IN_BLOCKS) + 1 + len(BEHIND_QUIT)} command lines, {len(KNOWN)} known faults, {len(faults)} others")
     return 1 if faults else 0
 
 

@@ -1,6 +1,7 @@
 // Preloaded into a program by gate/hostile.py. Counts the calls by which the program asks for memory (a thread's stack is memory
 // too), those that read and those that write, and has one of them fail. REFUSED names the kind and the number of the call, from 1,
-// and `bytes` behind that, or alone with a 0, has each read and each write take one byte. REFUSED_COUNTS is a file of three counters of 8 bytes, one a kind.
+// and `bytes` behind that, or alone with a 0, has each read and each write take one byte, and `none` has the refused call take
+// none, in place of an error. REFUSED_COUNTS is a file of three counters of 8 bytes, one a kind.
 #define _GNU_SOURCE
 #include <dlfcn.h>
 #include <errno.h>
@@ -19,7 +20,7 @@ static const char *const names[KINDS] = {"memory", "read", "write"};
 
 static _Atomic unsigned long *counts;
 static unsigned long refused[KINDS];
-static int by_bytes;
+static int by_bytes, takes_none;
 
 extern void *__libc_malloc(size_t), *__libc_calloc(size_t, size_t), *__libc_realloc(void *, size_t), *__libc_memalign(size_t, size_t);
 
@@ -32,6 +33,7 @@ __attribute__((constructor)) static void begin(void) {
         if (!strncmp(wanted, names[kind], number - wanted))
             refused[kind] = strtoul(number, NULL, 10);
     by_bytes = wanted && strstr(wanted, "bytes");
+    takes_none = wanted && strstr(wanted, "none");
     close(file);
     counts = shared == MAP_FAILED ? NULL : shared;
 }
@@ -70,12 +72,12 @@ int pthread_create(pthread_t *thread, const pthread_attr_t *how, void *(*begins)
     return is_refused(MEMORY) ? EAGAIN : create(thread, how, begins, with);
 }
 
-// How many bytes a call takes; none where it is the one that fails.
+// How many bytes a call takes; -1 where it is the one that fails with an error.
 static size_t taken(enum kind kind, size_t size) {
     if (!is_refused(kind))
         return by_bytes && size ? 1 : size;
     errno = EIO;
-    return (size_t)-1;
+    return takes_none ? 0 : (size_t)-1;
 }
 
 ssize_t read(int file, void *block, size_t size) {

@@ -105,17 +105,13 @@ TABLE = """
 crowded: Scenario::copy list read write Plain::load Plain::copy Plain::look Core::load Core::copy Core::look dump_text
 crowded: Lists::new Lists::copy Timers::new Timers::copy TicketLock::open Engine::open Shared::open
 long: Debugger::open Step Back Goto Goto-copy Run BreakWork BreakTime BreakRefusal BreakActivation List Clear Dump DumpPool Why WhyFlush
-long: run_settled draw-settled
-every: assemble read_text run run_told run_settled settle_text list_text from_image to_image check new debug play
-every: draw draw-settled draw-svg draw-settled-svg draw-some draw-some-svg
-every: why why-every why-at why-time why-settled why-flush why-flush-every why-flush-at
-every: draw-folded draw-works run_told-settled times times-json times-whom sweep trace-json trace-lines trace-text trace-dat
-late: run check
-asks: play explore
+every: assemble read_text run list_text from_image to_image debug play
+late: run
+asks: play
 """
 ROWS = [(call, name) for name, calls in re.findall("^(.*): (.*)$", TABLE, re.M) for call in calls.split()]
 # These answer all the same: a debugger goes on without the copies that it makes on its way forward, and the others take no memory.
-NEVER = {"Step", "Goto-copy", "Run", "BreakWork", "BreakTime", "BreakRefusal", "BreakActivation", "Clear", "new"}
+NEVER = {"Step", "Goto-copy", "Run", "BreakWork", "BreakTime", "BreakRefusal", "BreakActivation", "Clear"}
 
 
 class Caller(refused_memory.Worker):

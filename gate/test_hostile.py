@@ -112,7 +112,7 @@ def check_calls(room):
         ("list", {}, None),
         ("list", {"WITHIN": 'put("")'}, "never answers"),
         ("list", {"WITHIN": 'return said("no memory\\n", 4)'}, "never answers"),
-        ("new", {}, "which it never should"),
+        ("Clear", {}, "which it never should"),
         ("list", {"BEFORE": 'return said("no memory\\n", 1)'}, "ends with status 1"),
         ("list", {"BEFORE": 'put("other\\n")'}, "ends with status 0"),
         ("list", {"WITHIN": "abort()"}, "ends by signal 6"),
@@ -147,6 +147,26 @@ def check_streams(room):
         found = hostile_streams.all_faults(shell_program(room, script), [], {}, {}, ["--help"])
         assert len(found) == wanted, (script, found)
     check_single_bytes(room)
+    check_sessions(room)
+
+
+def check_sessions(room):
+    """What each stand-in does that answers a line, and ends at the second one."""
+    answers = "for (const char *it = \"ok\\n\"; *it; it++) if (write(1, it, 1) < 1) return said(\"write\\n\", 3);"
+    well = "{ char byte; long count; int lines = 0; while ((count = read(0, &byte, 1)) > 0) if (byte == 10) { if (lines++) return 0; ANSWERS } LATER if (count < 0) return said(\"read\\n\", 3); return 0; }"
+    for changes, is_well in [
+        ({}, True),
+        ({"ANSWERS": "", "LATER": f"if (count == 0) {{ {answers} }}"}, False),
+        ({"if (lines++) return 0;": "if (lines++) continue;"}, False),
+        ({"if (lines++) return 0;": "if (lines++) { read(0, &byte, 1); return 0; }"}, False),
+        ({"if (lines++) return 0;": "if (lines++) return 1;"}, False),
+        ({"ANSWERS": answers.replace("< 1", "< 0")}, False),
+    ]:
+        reads = well
+        for word, stands in {**changes, "ANSWERS": answers, "LATER": ""}.items():
+            reads = reads.replace(word, changes.get(word, stands))
+        found = hostile_streams.all_faults(built(room, READS=reads), [], {}, {}, session=("run x", "step\n", [b"ok\n"]))
+        assert bool(found) != is_well, (changes, found)
 
 
 def check_single_bytes(room):
@@ -163,6 +183,10 @@ def check_single_bytes(room):
     ]:
         found = hostile_streams.all_faults(built(room, **{"READS": well, **words}), [], {}, {}, by_bytes=["run -"])
         assert bool(found) != is_well, (words, found)
+    begun = reads.replace("FAILED", '{ write(open(words[3], O_WRONLY | O_CREAT, 0666), "o", 1); return said("read\\n", 3); }')
+    for stands, is_well in [(well, True), (begun, False)]:
+        found = hostile_streams.all_faults(built(room, READS=stands), [], {}, {}, by_bytes=["asm - out"])
+        assert bool(found) != is_well, (stands, found)
     for lines, least, is_well in [("x" * 200, 2, True), ("x" * 200, 3, False), ("x" * 20, 2, False)]:
         found = hostile_streams.all_faults(built(room, LINES=f'"{lines}"'), [], {}, {}, in_blocks={"run x": least})
         assert bool(found) != is_well, (lines, least, found)

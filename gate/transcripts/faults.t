@@ -53,6 +53,9 @@ A scenario that has no actor; one whose machine gets quiet only with more steps.
   $ cmwq run head.cmwq
   2|actors
   [1]
+  $ cmwq play head.cmwq --capacity 10
+  2|actors
+  [1]
   $ (cat head.cmwq; printf 'queue q max 1\nwork a q\nbody a\nfinish\nactor t\nqueue a 0\n') > pending.cmwq
   $ cmwq settle pending.cmwq
   2|never quiet
