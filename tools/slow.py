@@ -2,7 +2,9 @@
 each of its functions took, and each kind of module beneath them. `Lts` has a function's steps and drops, `Proof` its goals. The line of a function
 that `rattle check --progress` prints has also what was read and checked before it, for whichever function wanted that first.
 
-    python3 tools/slow.py CRATE [HOW MANY FUNCTIONS]"""
+    python3 tools/slow.py CRATE [HOW MANY FUNCTIONS [tests]]
+
+With `tests` it is the crate with its tests."""
 import collections
 import os
 import subprocess
@@ -31,11 +33,11 @@ def seconds_of(crate, modules):
     return functions, kinds
 
 
-def main(name, count="30"):
+def main(name, count="30", tests=""):
     folder = f"{kit.TOP}/crates/{name}"
     rtlib, crate = kit.crate_at(folder)
     with tempfile.TemporaryDirectory(prefix="slow-") as room:
-        words = [rtlib.RATTLE, "check", *crate.words(["--jobs", "1"], keeps=False), "--incremental", room]
+        words = [rtlib.RATTLE, "check", *crate.words(["--jobs", "1"], tests=bool(tests), keeps=False), "--incremental", room]
         ran = subprocess.run(words, cwd=folder, stdout=subprocess.PIPE, stderr=subprocess.STDOUT, text=True, errors="replace")
         modules = modules_of(room)
     if ran.returncode or not modules:

@@ -1,7 +1,8 @@
 //! Two bodies of the machine, side by side.
 
+use crate::machines::loaded;
 use cmwq_play::PlayError;
-use cmwq_table::Machine;
+use cmwq_table::{Machine, View};
 use cmwq_types::{Instr, Scenario};
 use std::alloc::Global;
 
@@ -13,17 +14,21 @@ pub(crate) fn first_difference<A: Machine, B: Machine>(
 ) -> Result<Option<usize>, PlayError> {
     let mut one: A = loaded(alloc, scenario)?;
     let mut other: B = loaded(alloc, scenario)?;
+    first_parting(&mut one, &mut other, instrs)
+}
+
+/// The number of the instruction at which the two part.
+fn first_parting<A: Machine, B: Machine>(
+    one: &mut A,
+    other: &mut B,
+    instrs: &[Instr],
+) -> Result<Option<usize>, PlayError> {
     for (number, instr) in instrs.iter().enumerate() {
-        if !go_alike(&mut one, &mut other, *instr)? {
+        if !go_alike(one, other, *instr)? {
             return Ok(Some(number));
         }
     }
     Ok(None)
-}
-
-/// A machine of a scenario that was read, and so is valid.
-fn loaded<M: Machine>(alloc: Global, scenario: &Scenario) -> Result<M, PlayError> {
-    M::load(alloc, scenario).map_err(|_want| PlayError::NoMemory)
 }
 
 /// Has both carry out the instruction, and answers whether they reply and then show the same.
@@ -32,6 +37,14 @@ fn go_alike<A: Machine, B: Machine>(
     other: &mut B,
     instr: Instr,
 ) -> Result<bool, PlayError> {
-    let alike = one.exec(instr) == other.exec(instr);
-    Ok(alike && one.look()? == other.look()?)
+    if one.exec(instr) != other.exec(instr) {
+        return Ok(false);
+    }
+    shows(other, &one.look()?)
+}
+
+/// Whether the machine shows this state.
+fn shows<M: Machine>(machine: &M, view: &View) -> Result<bool, PlayError> {
+    let shown = machine.look()?;
+    Ok(shown == *view)
 }

@@ -1,7 +1,7 @@
 //! The debugger: opened, and each of its commands.
 
 use crate::instructions::{actor_instrs, count_of};
-use crate::showing::{say, show_text};
+use crate::showing::{say, show_bytes};
 use crate::trying::{Tried, try_call};
 use cmwq_asm::assemble;
 use cmwq_debug::{Command, DebugError, Debugger, EventKind, Said};
@@ -45,29 +45,25 @@ const BREAKS: [Command; 3] = [
     Command::BreakRefusal,
 ];
 
-/// A scenario, and its actor's instructions.
+/// A scenario, its actor's instructions, and the copy of them that the next debugger takes.
 #[derive(Drop)]
 struct Opening<'s, M> {
     scenario: &'s Scenario,
     instrs: &'s [Instr],
+    given: Option<Vec<Instr>>,
     machine: PhantomData<M>,
 }
 
 impl<M: Machine> Tried for Opening<'_, M> {
-    type Given = Vec<Instr>;
-
     type Answer = Debugger<M>;
 
-    /// Nothing is held but what is lent.
-    fn show_held<R: Print>(&mut self, _rt: &R, _alloc: Global) -> Result<(), PlayError> {
+    fn prepare(&mut self, alloc: Global) -> Result<(), PlayError> {
+        self.given = Some(Vec::from_slice(alloc, self.instrs)?);
         Ok(())
     }
 
-    fn given(&self, alloc: Global) -> Result<Vec<Instr>, PlayError> {
-        Ok(Vec::from_slice(alloc, self.instrs)?)
-    }
-
-    fn call(&mut self, alloc: Global, given: Vec<Instr>) -> Result<Debugger<M>, PlayError> {
+    fn call(&mut self, alloc: Global) -> Result<Debugger<M>, PlayError> {
+        let given = self.given.take().ok_or(PlayError::Full)?;
         opened(alloc, self.scenario, given)
     }
 
@@ -99,19 +95,13 @@ struct Commanded<M: Machine> {
 }
 
 impl<M: Machine> Tried for Commanded<M> {
-    type Given = ();
-
     type Answer = Result<Said, DebugError>;
 
-    fn show_held<R: Print>(&mut self, rt: &R, _alloc: Global) -> Result<(), PlayError> {
+    fn show_held<R: Print>(&mut self, rt: &R) -> Result<(), PlayError> {
         show_place(rt, &mut self.debugger)
     }
 
-    fn given(&self, _alloc: Global) -> Result<(), PlayError> {
-        Ok(())
-    }
-
-    fn call(&mut self, _alloc: Global, _given: ()) -> Result<Result<Said, DebugError>, PlayError> {
+    fn call(&mut self, _alloc: Global) -> Result<Result<Said, DebugError>, PlayError> {
         obey(&mut self.debugger, self.command)
     }
 
@@ -142,7 +132,7 @@ fn obey<M: Machine>(
 /// Prints what was said.
 fn show_said<R: Print>(rt: &R, said: Result<Said, DebugError>) -> Result<(), PlayError> {
     match said {
-        Ok(Said::Text(text)) => show_text(rt, &text),
+        Ok(Said::Text(text)) => show_bytes(rt, &text),
         Ok(said) => say(rt, format_args!("{said:?}")),
         Err(refused) => say(rt, format_args!("refused {refused}")),
     }
@@ -213,6 +203,7 @@ pub(crate) fn try_open<M: Machine, R: Print>(
     let mut tried = Opening::<M> {
         scenario: &scenario,
         instrs: &instrs,
+        given: None,
         machine: PhantomData,
     };
     try_call(rt, alloc, &mut tried)

@@ -2,7 +2,7 @@
 
 use crate::instructions::{actor_instrs, count_of};
 use crate::showing::{say, show_machine};
-use crate::timing::issue_timed;
+use crate::timing::{issue_timed, opened};
 use crate::trying::{Tried, try_call};
 use cmwq_asm::assemble;
 use cmwq_engine::{Engine, Shared};
@@ -11,7 +11,6 @@ use cmwq_play::PlayError;
 use cmwq_table::Machine;
 use cmwq_types::{Instr, Scenario};
 use std::alloc::Global;
-use std::marker::PhantomData;
 
 /// A call that opens an engine, or a lock over one.
 #[derive(Clone, Copy)]
@@ -21,39 +20,31 @@ pub(crate) enum EngineCall {
     OpenLock,
 }
 
-/// A scenario, of which an engine is opened.
+/// A scenario, of which an engine is opened, and the engine that the next lock is opened over.
 #[derive(Drop)]
-struct Opening<'s, M> {
+struct Opening<'s, M: Machine> {
     scenario: &'s Scenario,
     instrs: &'s [Instr],
     call: EngineCall,
-    machine: PhantomData<M>,
+    given: Option<Engine<M>>,
 }
 
 impl<M: Machine> Tried for Opening<'_, M> {
-    /// The value that a lock is opened over.
-    type Given = Option<Engine<M>>;
-
     type Answer = Engine<M>;
 
-    /// Nothing is held but what is lent.
-    fn show_held<R: Print>(&mut self, _rt: &R, _alloc: Global) -> Result<(), PlayError> {
+    fn prepare(&mut self, alloc: Global) -> Result<(), PlayError> {
+        if matches!(self.call, EngineCall::OpenLock) {
+            self.given = Some(opened(alloc, self.scenario, self.instrs)?);
+        }
         Ok(())
     }
 
-    fn given(&self, alloc: Global) -> Result<Option<Engine<M>>, PlayError> {
-        match self.call {
-            EngineCall::Open | EngineCall::OpenShared => Ok(None),
-            EngineCall::OpenLock => Ok(Some(opened(alloc, self.scenario, self.instrs)?)),
-        }
-    }
-
     /// A lock is taken apart at once, which takes no memory.
-    fn call(&mut self, alloc: Global, given: Option<Engine<M>>) -> Result<Engine<M>, PlayError> {
-        match (self.call, given) {
-            (EngineCall::OpenLock, Some(engine)) => locked(alloc, engine),
-            (EngineCall::OpenShared, _) => shared(alloc, self.scenario, self.instrs),
-            _ => opened(alloc, self.scenario, self.instrs),
+    fn call(&mut self, alloc: Global) -> Result<Engine<M>, PlayError> {
+        match self.call {
+            EngineCall::Open => opened(alloc, self.scenario, self.instrs),
+            EngineCall::OpenShared => shared(alloc, self.scenario, self.instrs),
+            EngineCall::OpenLock => locked(alloc, self.given.take().ok_or(PlayError::Full)?),
         }
     }
 
@@ -75,21 +66,11 @@ fn show_engine<M: Machine, R: Print>(
     instrs: &[Instr],
 ) -> Result<(), PlayError> {
     show_machine(rt, engine.machine())?;
-    issue_all(alloc, engine, instrs)?;
+    let _times = issue_timed(alloc, engine, instrs)?;
     for entry in engine.history() {
         say(rt, format_args!("{entry:?}"))?;
     }
     show_machine(rt, engine.machine())
-}
-
-/// An engine of the scenario.
-fn opened<M: Machine>(
-    alloc: Global,
-    scenario: &Scenario,
-    instrs: &[Instr],
-) -> Result<Engine<M>, PlayError> {
-    let room = count_of(instrs)?;
-    Engine::open(alloc, scenario, room).map_err(|_want| PlayError::NoMemory)
 }
 
 /// The engine of a shared one of the scenario.
@@ -102,7 +83,10 @@ fn shared<M: Machine>(
     let Ok((shared, opener)) = Shared::open(alloc, scenario, room) else {
         return Err(PlayError::NoMemory);
     };
-    shared.close(opener).map_err(|_out| PlayError::Tickets)
+    match shared.close(opener) {
+        Ok(engine) => Ok(engine),
+        Err(_out) => Err(PlayError::Tickets),
+    }
 }
 
 /// The engine, once a lock has kept it.
@@ -111,20 +95,10 @@ fn locked<M: Machine>(alloc: Global, engine: Engine<M>) -> Result<Engine<M>, Pla
         return Err(PlayError::Full);
     }
     let (lock, opener) = TicketLock::open(alloc, engine)?;
-    lock.close(opener).map_err(|_out| PlayError::Tickets)
-}
-
-/// Issues the instructions on an engine without a history.
-fn issue_all<M: Machine>(
-    alloc: Global,
-    engine: &mut Engine<M>,
-    instrs: &[Instr],
-) -> Result<(), PlayError> {
-    if !engine.history().is_empty() {
-        return Err(PlayError::Full);
+    match lock.close(opener) {
+        Ok(engine) => Ok(engine),
+        Err(_out) => Err(PlayError::Tickets),
     }
-    let _times = issue_timed(alloc, engine, instrs)?;
-    Ok(())
 }
 
 /// Opens an engine, as it is called, of the scenario of this text.
@@ -140,7 +114,7 @@ pub(crate) fn try_engine<M: Machine, R: Print>(
         scenario: &scenario,
         instrs: &instrs,
         call,
-        machine: PhantomData,
+        given: None,
     };
     try_call(rt, alloc, &mut tried)
 }

@@ -1,6 +1,6 @@
 //! The calls of machines, of either body: once all instructions of a scenario's actor have been carried out.
 
-use crate::showing::{say, show_machine, show_text};
+use crate::showing::{say, show_bytes, show_machine};
 use crate::trying::{Tried, try_call};
 use cmwq_asm::assemble;
 use cmwq_dump::dump_text;
@@ -36,19 +36,13 @@ struct OnMachine<'s, M> {
 }
 
 impl<M: Machine> Tried for OnMachine<'_, M> {
-    type Given = ();
-
     type Answer = Answer<M>;
 
-    fn show_held<R: Print>(&mut self, rt: &R, _alloc: Global) -> Result<(), PlayError> {
+    fn show_held<R: Print>(&mut self, rt: &R) -> Result<(), PlayError> {
         show_machine(rt, &self.machine)
     }
 
-    fn given(&self, _alloc: Global) -> Result<(), PlayError> {
-        Ok(())
-    }
-
-    fn call(&mut self, alloc: Global, _given: ()) -> Result<Answer<M>, PlayError> {
+    fn call(&mut self, alloc: Global) -> Result<Answer<M>, PlayError> {
         match self.call {
             MachineCall::Load => Ok(Answer::Machine(loaded(alloc, self.scenario)?)),
             MachineCall::Copy => Ok(Answer::Machine(self.machine.copy()?)),
@@ -71,13 +65,13 @@ impl<M: Machine> Tried for OnMachine<'_, M> {
                 show_machine(rt, &machine)
             }
             Answer::View(view) => say(rt, format_args!("{view:?}")),
-            Answer::Text(text) => show_text(rt, &text),
+            Answer::Text(text) => show_bytes(rt, &text),
         }
     }
 }
 
 /// A machine of a scenario that was read, and so is valid.
-fn loaded<M: Machine>(alloc: Global, scenario: &Scenario) -> Result<M, PlayError> {
+pub(crate) fn loaded<M: Machine>(alloc: Global, scenario: &Scenario) -> Result<M, PlayError> {
     M::load(alloc, scenario).map_err(|_want| PlayError::NoMemory)
 }
 

@@ -21,30 +21,25 @@ clear 0
 run
 ";
 
-/// The scenario of a session.
+/// The scenario of a session, and its copy that the next session takes.
 #[derive(Drop)]
 struct Debugged<'x, X> {
     rt: &'x X,
     scenario: Scenario,
+    given: Option<Scenario>,
 }
 
 impl<X: Print> Tried for Debugged<'_, X> {
-    /// A copy of the scenario.
-    type Given = Scenario;
-
     type Answer = ();
 
-    /// Reader and writer are new for each call.
-    fn show_held<R: Print>(&mut self, _rt: &R, _alloc: Global) -> Result<(), PlayError> {
+    fn prepare(&mut self, _alloc: Global) -> Result<(), PlayError> {
+        self.given = Some(self.scenario.copy()?);
         Ok(())
     }
 
-    fn given(&self, _alloc: Global) -> Result<Scenario, PlayError> {
-        Ok(self.scenario.copy()?)
-    }
-
-    /// The scenario was read, and so is valid.
-    fn call(&mut self, alloc: Global, given: Scenario) -> Result<(), PlayError> {
+    /// The scenario was read, and so is valid. Reader and writer are new for each call.
+    fn call(&mut self, alloc: Global) -> Result<(), PlayError> {
+        let given = self.given.take().ok_or(PlayError::Actors)?;
         if given.check().is_err() {
             return Err(PlayError::Actors);
         }
@@ -57,19 +52,19 @@ impl<X: Print> Tried for Debugged<'_, X> {
             writer,
         )
     }
-
-    fn show_answer<R: Print>(
-        &mut self,
-        _rt: &R,
-        _alloc: Global,
-        _answer: (),
-    ) -> Result<(), PlayError> {
-        Ok(())
-    }
 }
 
 /// Has a session over the scenario of this text.
 pub(crate) fn try_debug<R: Print>(rt: &R, alloc: Global, text: &[u8]) -> Result<(), PlayError> {
     let scenario = assemble(alloc, text)?;
-    try_call(rt, alloc, &mut Debugged { rt, scenario })
+    let given = None;
+    try_call(
+        rt,
+        alloc,
+        &mut Debugged {
+            rt,
+            scenario,
+            given,
+        },
+    )
 }

@@ -23,9 +23,9 @@ pub(crate) fn show_machine<M: Machine, R: Print>(rt: &R, machine: &M) -> Result<
     println!(rt; "{view:?}").map_err(|_failed| PlayError::Write)
 }
 
-/// Prints bytes that are a text.
-pub(crate) fn show_text<R: Print>(rt: &R, text: &[u8]) -> Result<(), PlayError> {
-    rt.write_all(text).map_err(|_failed| PlayError::Write)
+/// Prints bytes as they are.
+pub(crate) fn show_bytes<R: Print>(rt: &R, bytes: &[u8]) -> Result<(), PlayError> {
+    rt.write_all(bytes).map_err(|_failed| PlayError::Write)
 }
 
 /// A writer that prints what it takes.
@@ -37,25 +37,6 @@ pub(crate) struct Printer<'r, R> {
 impl<R: Print> Write for Printer<'_, R> {
     fn write(&mut self, buf: &[u8]) -> io::Result<usize> {
         self.rt.write_some(buf)
-    }
-
-    fn flush(&mut self) -> io::Result<()> {
-        Ok(())
-    }
-}
-
-/// A writer that prints each byte that it takes as two digits.
-#[derive(Drop)]
-pub(crate) struct HexPrinter<'r, R> {
-    pub(crate) rt: &'r R,
-}
-
-impl<R: Print> Write for HexPrinter<'_, R> {
-    fn write(&mut self, buf: &[u8]) -> io::Result<usize> {
-        for byte in buf {
-            print!(self.rt; "{byte:02x}")?;
-        }
-        Ok(buf.len())
     }
 
     fn flush(&mut self) -> io::Result<()> {

@@ -184,19 +184,13 @@ struct OnStore<S: Store> {
 }
 
 impl<S: Store> Tried for OnStore<S> {
-    type Given = ();
-
     type Answer = S;
 
-    fn show_held<R: Print>(&mut self, rt: &R, _alloc: Global) -> Result<(), PlayError> {
+    fn show_held<R: Print>(&mut self, rt: &R) -> Result<(), PlayError> {
         self.store.show(rt)
     }
 
-    fn given(&self, _alloc: Global) -> Result<(), PlayError> {
-        Ok(())
-    }
-
-    fn call(&mut self, alloc: Global, _given: ()) -> Result<S, PlayError> {
+    fn call(&mut self, alloc: Global) -> Result<S, PlayError> {
         match self.call {
             StoreCall::New => Ok(S::new(alloc)?),
             StoreCall::Copy => Ok(self.store.copy()?),

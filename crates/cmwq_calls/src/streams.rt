@@ -1,10 +1,11 @@
 //! The calls that read an input and write what comes of it.
+ghost use Rattle.std.specs.Prelude.{◌≡◌, false};
 
-use crate::showing::{HexPrinter, Printer};
+use crate::showing::Printer;
 use crate::texts::written;
 use crate::trying::{Tried, try_call};
 use cmwq_asm::assemble;
-use cmwq_play::{Marked, PlayError, from_image, list_text, run, to_image};
+use cmwq_play::{Marked, PlayError, Sink, Source, from_image, list_text, run, to_image};
 use std::alloc::Global;
 
 /// A call of a reader and a writer.
@@ -25,38 +26,31 @@ struct Piped<'x, X> {
 }
 
 impl<X: Print> Tried for Piped<'_, X> {
-    type Given = ();
-
     type Answer = ();
 
     /// Reader and writer are new for each call.
-    fn show_held<R: Print>(&mut self, _rt: &R, _alloc: Global) -> Result<(), PlayError> {
-        Ok(())
-    }
-
-    fn given(&self, _alloc: Global) -> Result<(), PlayError> {
-        Ok(())
-    }
-
-    fn call(&mut self, alloc: Global, _given: ()) -> Result<(), PlayError> {
-        let rt = self.rt;
+    fn call(&mut self, alloc: Global) -> Result<(), PlayError> {
         let reader = &mut Marked::new(self.input);
-        let writer = &mut Marked::new(Printer { rt });
-        match self.call {
-            StreamCall::Run => run(alloc, reader, writer),
-            StreamCall::ListText => list_text(alloc, reader, writer),
-            StreamCall::ToImage => to_image(alloc, reader, &mut Marked::new(HexPrinter { rt })),
-            StreamCall::FromImage => from_image(alloc, reader, writer),
-        }
+        let writer = &mut Marked::new(Printer { rt: self.rt });
+        pipe(alloc, self.call, reader, writer)
     }
+}
 
-    fn show_answer<R: Print>(
-        &mut self,
-        _rt: &R,
-        _alloc: Global,
-        _answer: (),
-    ) -> Result<(), PlayError> {
-        Ok(())
+/// Makes the call, of this reader and writer.
+fn pipe<R: Source, W: Sink>(
+    alloc: Global,
+    call: StreamCall,
+    reader: &mut R,
+    writer: &mut W,
+) -> Result<(), PlayError>
+    requires reader { R.failed reader.old ≡ false }
+    requires writer { W.failed writer.old ≡ false }
+{
+    match call {
+        StreamCall::Run => run(alloc, reader, writer),
+        StreamCall::ListText => list_text(alloc, reader, writer),
+        StreamCall::ToImage => to_image(alloc, reader, writer),
+        StreamCall::FromImage => from_image(alloc, reader, writer),
     }
 }
 

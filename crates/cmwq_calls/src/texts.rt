@@ -1,11 +1,11 @@
 //! Scenarios, their texts and their images: copied, read and written.
 
-use crate::showing::{HexPrinter, show_scenario, show_text};
+use crate::showing::{show_bytes, show_scenario};
 use crate::trying::{Tried, try_call};
 use cmwq_asm::assemble;
 use cmwq_image::{read, write};
 use cmwq_list::list;
-use cmwq_play::{Marked, PlayError, put_all, read_text};
+use cmwq_play::{Marked, PlayError, read_text};
 use cmwq_types::Scenario;
 use std::alloc::Global;
 
@@ -24,8 +24,8 @@ pub(crate) enum TextCall {
 #[derive(Drop)]
 enum Answer {
     Scenario(Scenario),
-    Text(Vec<u8>),
-    Image(Vec<u8>),
+    /// A text or an image.
+    Bytes(Vec<u8>),
 }
 
 /// A scenario with its text and its image.
@@ -38,19 +38,13 @@ struct OnText<'t> {
 }
 
 impl Tried for OnText<'_> {
-    type Given = ();
-
     type Answer = Answer;
 
-    fn show_held<R: Print>(&mut self, rt: &R, _alloc: Global) -> Result<(), PlayError> {
+    fn show_held<R: Print>(&mut self, rt: &R) -> Result<(), PlayError> {
         show_scenario(rt, &self.scenario)
     }
 
-    fn given(&self, _alloc: Global) -> Result<(), PlayError> {
-        Ok(())
-    }
-
-    fn call(&mut self, alloc: Global, _given: ()) -> Result<Answer, PlayError> {
+    fn call(&mut self, alloc: Global) -> Result<Answer, PlayError> {
         match self.call {
             TextCall::Copy => Ok(Answer::Scenario(self.scenario.copy()?)),
             TextCall::Assemble => Ok(Answer::Scenario(assemble(alloc, self.text)?)),
@@ -58,9 +52,9 @@ impl Tried for OnText<'_> {
                 let reader = &mut Marked::new(self.text);
                 Ok(Answer::Scenario(read_text(alloc, reader)?))
             }
-            TextCall::List => Ok(Answer::Text(list(alloc, &self.scenario)?)),
+            TextCall::List => Ok(Answer::Bytes(list(alloc, &self.scenario)?)),
             TextCall::Read => Ok(Answer::Scenario(read(alloc, &self.image)?)),
-            TextCall::Write => Ok(Answer::Image(written(alloc, &self.scenario)?)),
+            TextCall::Write => Ok(Answer::Bytes(written(alloc, &self.scenario)?)),
         }
     }
 
@@ -72,8 +66,7 @@ impl Tried for OnText<'_> {
     ) -> Result<(), PlayError> {
         match answer {
             Answer::Scenario(scenario) => show_scenario(rt, &scenario),
-            Answer::Text(text) => show_text(rt, &text),
-            Answer::Image(image) => put_all(&mut Marked::new(HexPrinter { rt }), &image),
+            Answer::Bytes(bytes) => show_bytes(rt, &bytes),
         }
     }
 }

@@ -6,28 +6,31 @@ use std::alloc::Global;
 
 /// A call that takes memory, with what its caller holds.
 pub(crate) trait Tried {
-    /// What the call takes by value, made anew for each.
-    type Given: Drop;
-
     /// What it answers.
     type Answer: Drop;
 
-    /// Shows what the caller holds.
-    fn show_held<R: Print>(&mut self, rt: &R, alloc: Global) -> Result<(), PlayError>;
+    /// Shows what the caller holds, which may be nothing but what is lent.
+    fn show_held<R: Print>(&mut self, _rt: &R) -> Result<(), PlayError> {
+        Ok(())
+    }
 
-    /// Makes what the call takes by value.
-    fn given(&self, alloc: Global) -> Result<Self::Given, PlayError>;
+    /// Makes anew what the call takes by value, if it takes anything.
+    fn prepare(&mut self, _alloc: Global) -> Result<(), PlayError> {
+        Ok(())
+    }
 
     /// Makes the call.
-    fn call(&mut self, alloc: Global, given: Self::Given) -> Result<Self::Answer, PlayError>;
+    fn call(&mut self, alloc: Global) -> Result<Self::Answer, PlayError>;
 
-    /// Shows what it answered.
+    /// Shows what it answered, which may be nothing but that it is done.
     fn show_answer<R: Print>(
         &mut self,
-        rt: &R,
-        alloc: Global,
-        answer: Self::Answer,
-    ) -> Result<(), PlayError>;
+        _rt: &R,
+        _alloc: Global,
+        _answer: Self::Answer,
+    ) -> Result<(), PlayError> {
+        Ok(())
+    }
 }
 
 /// Makes the call, and makes it again where it answered `NoMemory`. Prints what the caller holds behind `= held`; behind `= call` what the
@@ -42,16 +45,16 @@ pub(crate) fn try_call<R: Print, T: Tried>(
         return Err(PlayError::NoMemory);
     }
     say(rt, "= held")?;
-    tried.show_held(rt, alloc)
+    tried.show_held(rt)
 }
 
 /// Makes the call, shows all but what the caller holds after it, and answers whether memory was refused to it.
 fn is_refused<R: Print, T: Tried>(rt: &R, alloc: Global, tried: &mut T) -> Result<bool, PlayError> {
-    let given = tried.given(alloc)?;
+    tried.prepare(alloc)?;
     say(rt, "= held")?;
-    tried.show_held(rt, alloc)?;
+    tried.show_held(rt)?;
     say(rt, "= call")?;
-    let outcome = tried.call(alloc, given);
+    let outcome = tried.call(alloc);
     let is_refused = show_outcome(rt, &outcome)?;
     if let Ok(answer) = outcome {
         tried.show_answer(rt, alloc, answer)?;

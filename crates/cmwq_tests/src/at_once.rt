@@ -1,13 +1,15 @@
 //! Two threads that issue on one shared engine at once.
 ghost use Rattle.cmwq_engine.specs.Shared.{IsPassOf};
+ghost use Rattle.std.specs.List.{All};
 
 use cmwq_engine::{Engine, IssueError, Receipt, Shared};
 use cmwq_lock::Pass;
 use cmwq_table::Machine;
 use cmwq_types::{Instr, Reply, WorkId};
+use std::alloc::Global;
 use std::process::Abort;
 use std::sync::{Barrier, Wait};
-use std::thread::{self, Threads, join};
+use std::thread::{self, Threads};
 use std::time::{Clock, Duration};
 
 /// What a thread does.
@@ -131,41 +133,75 @@ fn do_part<M: Machine, R: Wait + Clock>(
     }
 }
 
+/// A caller, and what its thread does.
+pub(crate) type Job<M> = (Pass<Engine<M>>, Part);
+
+/// A caller, and what came of it.
+pub(crate) type Came<M> = (Pass<Engine<M>>, Done);
+
 /// Does a thread's part once both threads are there.
 fn do_with_the_other<M: Machine, R: Wait + Clock>(
     rt: &R,
     start: &Barrier,
     shared: &Shared<M>,
-    pass: Pass<Engine<M>>,
-    part: Part,
-) -> (Pass<Engine<M>>, Done)
-    requires { IsPassOf shared.now pass }
+    job: Job<M>,
+) -> Came<M>
+    requires { IsPassOf shared.now job.0 }
     ensures { IsPassOf shared.now result.0 }
 {
     start.wait(rt);
-    do_part(rt, shared, pass, part)
+    do_part(rt, shared, job.0, job.1)
+}
+
+/// Does each thread's part, and gives what came of it once all threads have ended.
+fn all_done<M: Machine + Send + Sync, R: Threads + Wait + Clock + Abort + Sync>(
+    rt: &R,
+    shared: &Shared<M>,
+    jobs: Vec<Job<M>>,
+) -> Vec<Came<M>>
+    requires { All (λ job. IsPassOf shared.now job.0) jobs.items }
+    ensures { All (λ came. IsPassOf shared.now came.0) result.items }
+{
+    let start = Barrier::new(jobs.len());
+    thread::map_vec(
+        rt,
+        jobs,
+        &|job| { do_with_the_other(rt, &start, shared, job) },
+    )
+    .expect(rt, "memory is left")
+}
+
+/// Takes the last one.
+fn last_of<M: Machine>(rt: &impl Abort, shared: &Shared<M>, all: &mut Vec<Came<M>>) -> Came<M>
+    requires { All (λ came. IsPassOf shared.now came.0) all.old.items }
+    ensures all { All (λ came. IsPassOf shared.now came.0) all.new.items }
+    ensures last { IsPassOf shared.now result.0 }
+{
+    let _ = shared;
+    match all.pop() {
+        Some(came) => came,
+        None => panic!(rt; "a thread has ended"),
+    }
 }
 
 /// Two threads, each with a part of its own.
 pub(crate) fn at_once<M: Machine + Send + Sync, R: Threads + Wait + Clock + Abort + Sync>(
     rt: &R,
+    alloc: Global,
     shared: &Shared<M>,
-    one: Pass<Engine<M>>,
-    other: Pass<Engine<M>>,
-    parts: (Part, Part),
-) -> (Pass<Engine<M>>, Pass<Engine<M>>, (Done, Done))
-    requires one { IsPassOf shared.now one }
-    requires other { IsPassOf shared.now other }
-    ensures one { IsPassOf shared.now result.0 }
-    ensures other { IsPassOf shared.now result.1 }
+    one: Job<M>,
+    other: Job<M>,
+) -> (Came<M>, Came<M>)
+    requires one { IsPassOf shared.now one.0 }
+    requires other { IsPassOf shared.now other.0 }
+    ensures one { IsPassOf shared.now result.0.0 }
+    ensures other { IsPassOf shared.now result.1.0 }
 {
-    let start = Barrier::new(2);
-    let start = &start;
-    let (part, others_part) = parts;
-    let ((one, first), (other, second)) = join(
-        rt,
-        move || do_with_the_other(rt, start, shared, one, part),
-        move || do_with_the_other(rt, start, shared, other, others_part),
-    );
-    (one, other, (first, second))
+    let mut jobs = Vec::new(alloc);
+    jobs.push(one).expect(rt, "memory is left");
+    jobs.push(other).expect(rt, "memory is left");
+    let mut all = all_done(rt, shared, jobs);
+    let other = last_of(rt, shared, &mut all);
+    let one = last_of(rt, shared, &mut all);
+    (one, other)
 }

@@ -19,12 +19,12 @@ use std::thread::Threads;
 use std::time::Clock;
 
 /// Of eight questions five came into the history, and three found it full.
-fn check_asked(rt: &impl Abort, done: (Done, Done)) {
+fn check_asked(rt: &impl Abort, first: Done, second: Done) {
     let want = Outcomes {
         entered: 5,
         full: 3,
     };
-    match done {
+    match (first, second) {
         (Done::Asked(one), Done::Asked(other)) => same(rt, "five of eight", one.and(other), want),
         _ => panic!(rt; "both threads ask"),
     }
@@ -36,8 +36,9 @@ fn check_filling<M: Machine + Send + Sync, R: Threads + Wait + Clock + Abort + S
     alloc: Global,
 ) {
     let (shared, opener, p0, p1) = with_two_passes::<M>(rt, alloc, ONE_WORK, 5);
-    let (p0, p1, done) = at_once(rt, &shared, p0, p1, (Part::Ask, Part::Ask));
-    check_asked(rt, done);
+    let (asks, asks_too) = ((p0, Part::Ask), (p1, Part::Ask));
+    let ((p0, first), (p1, second)) = at_once(rt, alloc, &shared, asks, asks_too);
+    check_asked(rt, first, second);
     let engine = closed(rt, shared, opener, p0, p1);
     let history = engine.history();
     same(rt, "entries", history.len(), 5);
@@ -89,28 +90,58 @@ fn retire_all<M: Machine>(
     }
 }
 
+/// One more pass is refused.
+fn refuse_more<M: Machine>(rt: &impl Abort, shared: &Shared<M>, opener: &mut Opener<Engine<M>>)
+    requires opener { IsOpenerOf shared.now opener.old }
+    requires room { next_of (opener_view opener.old) < 2 ^ 32 }
+    ensures opener { IsOpenerOf shared.now opener.new }
+    ensures next { next_of (opener_view opener.new) ≡ next_of (opener_view opener.old) }
+{
+    match shared.pass(opener) {
+        Ok(_) => panic!(rt; "64 passes are out"),
+        Err(_too_many) => {}
+    }
+}
+
+/// A new caller issues one instruction.
+fn issue_once<M: Machine, R: Wait + Abort>(
+    rt: &R,
+    shared: &Shared<M>,
+    opener: &mut Opener<Engine<M>>,
+)
+    requires opener { IsOpenerOf shared.now opener.old }
+    requires room { next_of (opener_view opener.old) < 2 ^ 32 }
+    ensures { IsOpenerOf shared.now opener.new }
+{
+    let pass = shared.pass(opener).expect(rt, "63 passes are out");
+    let (pass, _) = shared.issue(rt, pass, Instr::Busy);
+    shared.retire(opener, pass);
+}
+
+/// The one entry is of caller 64.
+fn check_last<M: Machine>(rt: &impl Abort, shared: Shared<M>, opener: Opener<Engine<M>>)
+    requires { IsOpenerOf shared opener }
+{
+    match shared.close(opener) {
+        Ok(engine) => match engine.history() {
+            [entry] => same(rt, "the caller", entry.caller, 64),
+            _ => panic!(rt; "one entry"),
+        },
+        Err(_) => panic!(rt; "no pass is out"),
+    }
+}
+
 /// With 64 callers out one more is refused. Once one is retired there is one more, and what it issues stands in the history under its own
 /// number.
 fn check_caller_64<M: Machine, R: Wait + Abort>(rt: &R, alloc: Global) {
     let (shared, mut opener) = opened::<M>(rt, alloc, ONE_WORK, 1);
     let mut passes = more_passes(rt, alloc, &shared, &mut opener, 64);
-    match shared.pass(&mut opener) {
-        Ok(_) => panic!(rt; "64 passes are out"),
-        Err(_too_many) => {}
-    }
+    refuse_more(rt, &shared, &mut opener);
     let last = passes.pop().expect(rt, "64 passes are out");
     shared.retire(&mut opener, last);
-    let pass = shared.pass(&mut opener).expect(rt, "63 passes are out");
-    let (pass, _) = shared.issue(rt, pass, Instr::Busy);
-    shared.retire(&mut opener, pass);
+    issue_once(rt, &shared, &mut opener);
     retire_all(&shared, &mut opener, passes);
-    match shared.close(opener) {
-        Ok(engine) => {
-            let callers = engine.history().iter().map(|entry| entry.caller);
-            assert!(rt; callers.eq([64].iter().copied()));
-        }
-        Err(_) => panic!(rt; "no pass is out"),
-    }
+    check_last(rt, shared, opener);
 }
 
 /// Two threads fill a history, and a pass after the 64th has a number of its own.

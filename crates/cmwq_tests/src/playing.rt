@@ -4,12 +4,13 @@ ghost use Rattle.std.specs.Prelude.{◌≤◌, ⊤};
 
 use crate::checking::same;
 use crate::examples::scenario_of;
-use crate::streams::{Failure, Output, writing_to};
+use crate::streams::{Failure, Output, failing_at};
 use cmwq_actors::Gate;
 use cmwq_interleaving::play;
 use cmwq_play::{Marked, PlayError, run};
-use cmwq_types::{Instr, Scenario, WorkId};
+use cmwq_types::{Instr, WorkId};
 use std::alloc::Global;
+use std::io::Write;
 use std::process::Abort;
 use std::sync::Wait;
 use std::sync::atomic::{AtomicBool, AtomicU32, Ordering};
@@ -37,25 +38,19 @@ impl Meeting {
         }
     }
 
-    /// Whether the last actor is at its second call.
-    fn is_last_there(&self) -> bool {
-        self.last_there.load(Ordering::SeqCst)
-    }
-
-    /// Whether all other actors are at their first call.
-    fn are_others_there(&self) -> bool {
-        self.others_there.load(Ordering::SeqCst) == u32::from(self.last)
+    /// Whether the last actor is at its second call, or, for that one, all others are at their first.
+    fn is_met(&self, is_last: bool) -> bool {
+        if is_last {
+            self.others_there.load(Ordering::SeqCst) == u32::from(self.last)
+        } else {
+            self.last_there.load(Ordering::SeqCst)
+        }
     }
 
     /// Waits until it is so, at most 10,000 turns of a millisecond.
     fn hold<R: Wait + Clock>(&self, rt: &R, is_last: bool) {
         for _turn in 0..10_000 {
-            let is_met = if is_last {
-                self.are_others_there()
-            } else {
-                self.is_last_there()
-            };
-            if is_met {
+            if self.is_met(is_last) {
                 return;
             }
             thread::sleep(rt, Duration::from_millis(1));
@@ -79,28 +74,30 @@ impl Gate for Meeting {
     }
 }
 
-/// What the play answers, and the writer.
-fn played<'x, R: Threads + Wait + Clock + Sync + AllocGlobal + Abort, G: Gate>(
-    rt: &'x R,
+/// What the play answers, and the writer that it was given. Its actors have met.
+fn played<R: Threads + Wait + Clock + Sync + AllocGlobal + Abort, W: Write + Drop>(
+    rt: &R,
     text: &[u8],
     capacity: u32,
-    gate: &'x G,
-    output: Output,
-) -> (Result<(), PlayError>, Output)
+    last: u8,
+    writer: W,
+) -> (Result<(), PlayError>, W)
     requires { capacity ≤ MAX_LINES }
 {
     let scenario = scenario_of(rt, rt.alloc(), text);
-    let mut writer = Marked::new(output);
-    let result = play(rt, rt.alloc(), scenario, capacity, gate, &mut writer);
+    let gate = Meeting::new(last);
+    let mut writer = Marked::new(writer);
+    let result = play(rt, rt.alloc(), scenario, capacity, &gate, &mut writer);
+    same(rt, "late", gate.late.load(Ordering::SeqCst), false);
     (result, writer.into_inner())
 }
 
 /// What running the text prints.
 fn printed(rt: &impl Abort, alloc: Global, text: &[u8]) -> Vec<u8> {
     let mut reader = Marked::new(text);
-    let mut writer = Marked::new(writing_to(alloc, 4096));
+    let mut writer = Marked::new(Vec::new(alloc));
     run(alloc, &mut reader, &mut writer).expect(rt, "the text runs");
-    writer.into_inner().taken
+    writer.into_inner()
 }
 
 /// Two actors: x queues a; y queues b and asks.
@@ -142,71 +139,69 @@ actor played
 queue b 0
 ";
 
-/// What the two actors leave behind that: the capacity, the answer, and the two ends that there are, each with what it prints.
-const ENDS: [(u32, Result<(), PlayError>, [(&str, &str); 2]); 2] = [
-    (
-        10,
-        Ok(()),
-        [
-            ("queue a 0\nbusy\n# 0 no\n", "0 no\n"),
-            ("busy\nqueue a 0\n# 0 no\n", "0 no\n"),
-        ],
-    ),
-    (
-        2,
-        Err(PlayError::Full),
-        [("queue a 0\n", ""), ("busy\n# 0 no\n", "0 no\n")],
-    ),
+/// With this capacity the play answers so, and leaves one of two ends, each with what running the text prints.
+fn check_two<R: Threads + Wait + Clock + Sync + AllocGlobal + Abort>(
+    rt: &R,
+    capacity: u32,
+    want: Result<(), PlayError>,
+    ends: [(&str, &str); 2],
+)
+    requires { capacity ≤ MAX_LINES }
+{
+    let (result, left) = played(rt, TWO_ACTORS, capacity, 1, Vec::new(rt.alloc()));
+    same(rt, capacity, result, want);
+    let lines = printed(rt, rt.alloc(), &left);
+    let is_one = ends.iter().any(|(end, prints)| {
+        left.strip_prefix(BEGUN.as_bytes()) == Some(end.as_bytes())
+            && lines.as_slice() == prints.as_bytes()
+    });
+    same(rt, capacity, is_one, true);
+}
+
+/// What stands behind that where all is left, each with what running the text prints.
+const ENDS: [(&str, &str); 2] = [
+    ("queue a 0\nbusy\n# 0 no\n", "0 no\n"),
+    ("busy\nqueue a 0\n# 0 no\n", "0 no\n"),
 ];
 
 #[test]
 fn two_actors_at_once_leave_one_of_two_texts(rt: HostRuntime) {
-    for (capacity, want, ends) in ENDS {
-        let gate = Meeting::new(1);
-        let output = writing_to(rt.alloc(), 4096);
-        let (result, output) = played(&rt, TWO_ACTORS, capacity.min(10), &gate, output);
-        same(&rt, capacity, result, want);
-        same(&rt, capacity, gate.late.load(Ordering::SeqCst), false);
-        let lines = printed(&rt, rt.alloc(), &output.taken);
-        let left = output.taken.as_slice();
-        let is_one = ends.iter().any(|(end, prints)| {
-            left.strip_prefix(BEGUN.as_bytes()) == Some(end.as_bytes())
-                && lines.as_slice() == prints.as_bytes()
-        });
-        same(&rt, capacity, is_one, true);
-    }
+    check_two(&rt, 10, Ok(()), ENDS);
+    let fronts = [("queue a 0\n", ""), ("busy\n# 0 no\n", "0 no\n")];
+    check_two(&rt, 2, Err(PlayError::Full), fronts);
 }
 
 /// Whether these bytes are a front of what the two actors leave.
 fn is_front(taken: &[u8]) -> bool {
-    if taken.len() <= BEGUN.len() {
+    let Some(end) = taken.strip_prefix(BEGUN.as_bytes()) else {
         return BEGUN.as_bytes().starts_with(taken);
-    }
-    let (begun, end) = taken.split_at(BEGUN.len());
-    begun == BEGUN.as_bytes()
-        && ENDS[0]
-            .2
-            .iter()
-            .any(|(whole, _)| whole.as_bytes().starts_with(end))
+    };
+    let [(one, _), (other, _)] = ENDS;
+    one.as_bytes().starts_with(end) || other.as_bytes().starts_with(end)
+}
+
+/// A writer that fails at this call, if there are so many, has a front of a text, and that is told.
+fn check_failing<R: Threads + Wait + Clock + Sync + AllocGlobal + Abort>(
+    rt: &R,
+    failure: Failure,
+    fails: usize,
+) {
+    let writer = failing_at(rt.alloc(), failure, fails);
+    let (result, Output { taken, calls, .. }) = played(rt, TWO_ACTORS, 10, 1, writer);
+    let want = if calls < fails {
+        Ok(())
+    } else {
+        Err(PlayError::Write)
+    };
+    same(rt, fails, result, want);
+    same(rt, fails, is_front(&taken), true);
 }
 
 #[test]
 fn a_failing_writer_has_a_front_of_a_text(rt: HostRuntime) {
-    for failure in [Failure::Error, Failure::TakesNone] {
-        for fails in 1..10 {
-            let gate = Meeting::new(1);
-            let mut output = writing_to(rt.alloc(), 64);
-            output.fails = fails;
-            output.failure = failure;
-            let (result, output) = played(&rt, TWO_ACTORS, 10, &gate, output);
-            let want = if output.calls < fails {
-                Ok(())
-            } else {
-                Err(PlayError::Write)
-            };
-            same(&rt, (failure, fails), result, want);
-            same(&rt, (failure, fails), is_front(&output.taken), true);
-        }
+    for fails in 1..10 {
+        check_failing(&rt, Failure::Error, fails);
+        check_failing(&rt, Failure::TakesNone, fails);
     }
 }
 
@@ -237,41 +232,36 @@ fn lines_like(text: &[u8], line: &[u8]) -> usize {
 /// How often 15 of sixteen actors are told that their work is queued already, and all that none is busy; and the bytes of these lines.
 const ALL_TOLD: (usize, usize, usize) = (15, 16, 15 * 10 + 16 * 5);
 
-/// The scenario's actor has so many lines, and queues the work first.
-fn check_played(rt: &impl Abort, scenario: &Scenario, lines: usize) {
-    let given = scenario.actors.first().map(|played| played.lines.len());
-    same(rt, "lines", given, Some(lines));
-    let first = scenario
-        .actors
-        .first()
-        .and_then(|played| played.lines.first());
-    let instr = first.map(|line| line.instr);
-    same(
-        rt,
-        "the first line",
-        instr,
-        Some(Instr::Queue(WorkId(0), 0)),
-    );
+/// With this capacity the sixteen actors' play answers so, and leaves one actor with so many lines, who queues the work first. Gives what
+/// running that prints.
+fn check_sixteen<R: Threads + Wait + Clock + Sync + AllocGlobal + Abort>(
+    rt: &R,
+    capacity: u32,
+    want: Result<(), PlayError>,
+    lines: usize,
+) -> Vec<u8>
+    requires { capacity ≤ MAX_LINES }
+{
+    let text = sixteen_actors(rt, rt.alloc());
+    let (result, left) = played(rt, text.as_bytes(), capacity, 15, Vec::new(rt.alloc()));
+    same(rt, capacity, result, want);
+    let scenario = scenario_of(rt, rt.alloc(), &left);
+    same(rt, capacity, scenario.actors.len(), 1);
+    let given = &scenario.actors.first().expect(rt, "one actor").lines;
+    same(rt, capacity, given.len(), lines);
+    let first = given.first().map(|line| line.instr);
+    same(rt, capacity, first, Some(Instr::Queue(WorkId(0), 0)));
+    printed(rt, rt.alloc(), &left)
 }
 
 #[test]
 fn sixteen_actors_at_once_leave_all_their_lines(rt: HostRuntime) {
-    let text = sixteen_actors(&rt, rt.alloc());
-    for (capacity, lines, want) in [(100, 32, Ok(())), (20, 20, Err(PlayError::Full))] {
-        let gate = Meeting::new(15);
-        let output = writing_to(rt.alloc(), 4096);
-        let (result, output) = played(&rt, text.as_bytes(), capacity.min(100), &gate, output);
-        same(&rt, capacity, result, want);
-        same(&rt, capacity, gate.late.load(Ordering::SeqCst), false);
-        let left = scenario_of(&rt, rt.alloc(), &output.taken);
-        same(&rt, capacity, left.actors.len(), 1);
-        check_played(&rt, &left, lines);
-        let lines = printed(&rt, rt.alloc(), &output.taken);
-        let told = (
-            lines_like(&lines, b"0 already"),
-            lines_like(&lines, b"0 no"),
-            lines.len(),
-        );
-        same(&rt, capacity, capacity < 100 || told == ALL_TOLD, true);
-    }
+    let _front = check_sixteen(&rt, 20, Err(PlayError::Full), 20);
+    let lines = check_sixteen(&rt, 100, Ok(()), 32);
+    let told = (
+        lines_like(&lines, b"0 already"),
+        lines_like(&lines, b"0 no"),
+        lines.len(),
+    );
+    same(&rt, "all are told", told, ALL_TOLD);
 }

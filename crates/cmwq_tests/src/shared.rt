@@ -219,31 +219,42 @@ fn check_meeting<M: Machine>(rt: &impl Abort, alloc: Global) {
     let _p0 = issued(rt, &shared, d0, Instr::State(A), Ok(receipt(2, 2, LISTED)));
 }
 
+/// The caller serves on, and the other's work is pending.
+fn serve_on<M: Machine, R: Wait + Abort>(
+    rt: &R,
+    shared: &Shared<M>,
+    pass: Pass<Engine<M>>,
+    other: WorkId,
+) -> Pass<Engine<M>>
+    requires { IsPassOf shared.now pass }
+    ensures { IsPassOf shared.now result }
+{
+    let (pass, outcome) = shared.issue(rt, pass, Instr::State(other));
+    same(rt, other, is_pending(outcome), true);
+    pass
+}
+
 /// Two threads see each other's work, their callers meet, and both serve on.
 fn check_seeing<M: Machine + Send + Sync, R: Threads + Wait + Clock + Abort + Sync>(
     rt: &R,
     alloc: Global,
 ) {
     let (shared, opener, p0, p1) = with_two_passes::<M>(rt, alloc, TWO_WORKS, 20_004);
-    let parts = (
-        Part::See { own: A, other: B },
-        Part::See { own: B, other: A },
-    );
-    let (p0, p1, done) = at_once(rt, &shared, p0, p1, parts);
-    let want = (Done::Sees(true), Done::Sees(true));
-    same(rt, "each sees the other's work", done, want);
+    let sees_b = (p0, Part::See { own: A, other: B });
+    let sees_a = (p1, Part::See { own: B, other: A });
+    let ((p0, first), (p1, second)) = at_once(rt, alloc, &shared, sees_b, sees_a);
+    same(rt, "the second work", first, Done::Sees(true));
+    same(rt, "the first work", second, Done::Sees(true));
     let (p0, p1) = shared.meet(p0, p1);
-    let (p0, first) = shared.issue(rt, p0, Instr::State(B));
-    let (p1, second) = shared.issue(rt, p1, Instr::State(A));
-    same(
-        rt,
-        "both serve on",
-        (is_pending(first), is_pending(second)),
-        (true, true),
-    );
+    let p0 = serve_on(rt, &shared, p0, B);
+    let p1 = serve_on(rt, &shared, p1, A);
     let engine = closed(rt, shared, opener, p0, p1);
-    let last = engine.history().iter().rev().take(2);
-    assert!(rt; last.map(|entry| entry.caller).eq([1, 0].iter().copied()));
+    match engine.history() {
+        [.., last_but_one, last] => {
+            same(rt, "the last", (last_but_one.caller, last.caller), (0, 1));
+        }
+        _ => panic!(rt; "both serve on"),
+    }
 }
 
 /// Two callers issue in the order of their tickets; one issues on after a meeting; two threads see each other's work pending, and meet.

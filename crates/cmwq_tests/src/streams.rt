@@ -5,7 +5,7 @@ use std::io;
 use std::io::Write;
 
 /// How a writer fails at one of its calls.
-#[derive(Clone, Copy, Debug, PartialEq, Eq)]
+#[derive(Clone, Copy)]
 pub(crate) enum Failure {
     /// It answers an error.
     Error,
@@ -13,17 +13,18 @@ pub(crate) enum Failure {
     TakesNone,
 }
 
-/// A writer that takes at most some bytes a call, and may fail at one of its calls.
+/// How many bytes a call takes at most.
+const STEP: usize = 64;
+
+/// A writer that fails at one of its calls.
 #[derive(Drop)]
 pub(crate) struct Output {
     /// What was taken.
     pub(crate) taken: Vec<u8>,
-    /// How many bytes a call takes at most.
-    pub(crate) step: usize,
-    /// The number of the call that fails, from 1 on; 0 for none.
-    pub(crate) fails: usize,
+    /// The number of the call that fails, from 1 on.
+    fails: usize,
     /// How it fails then.
-    pub(crate) failure: Failure,
+    failure: Failure,
     /// How many calls there were.
     pub(crate) calls: usize,
 }
@@ -37,7 +38,7 @@ impl Write for Output {
                 Failure::TakesNone => Ok(0),
             };
         }
-        let n = self.step.min(buf.len());
+        let n = STEP.min(buf.len());
         self.taken.extend_from_slice(&buf[..n])?;
         Ok(n)
     }
@@ -47,13 +48,12 @@ impl Write for Output {
     }
 }
 
-/// A writer that doesn't fail.
-pub(crate) fn writing_to(alloc: Global, step: usize) -> Output {
+/// A writer that fails so at this call.
+pub(crate) fn failing_at(alloc: Global, failure: Failure, fails: usize) -> Output {
     Output {
         taken: Vec::new(alloc),
-        step,
-        fails: 0,
-        failure: Failure::Error,
+        fails,
+        failure,
         calls: 0,
     }
 }
