@@ -99,6 +99,13 @@ def rounds_of(bodies):
     return [[group[at] for group in of_function.values() if at < len(group)] for at in range(length)], alone
 
 
+def function_of(path):
+    """The name of the function of this path, or, of a closure, of the function in which it stands (`low::lists::fn::Lists::front::map+FnOnce::call_once`)."""
+    outside, is_closure, within = path.rpartition("::fn::")
+    parts = within.removesuffix("::call").removesuffix("::call_mut").removesuffix("::call_once").split("::")
+    return parts[-2] if is_closure and len(parts) > 1 else parts[-1]
+
+
 def refusals(said):
     """By their names, the functions of which the prover refuses a goal, and what it says of one."""
     told, found = {}, {}
@@ -106,11 +113,11 @@ def refusals(said):
         if at := re.match(r"(?:\./)?proofs/(\S+)/\w+\.antt:\d+:\d+: error: (.*)", line):
             if not NAMELESS.search(at[2]):
                 told.setdefault(at[1], at[2])
-        elif at := re.match(r"fn \S*?(\w+): no proof: expected answers in \S+ (`search` did not prove .*)", line):
-            found[at[1]] = at[2]
+        elif at := re.match(r"fn (\S+): no proof: expected answers in \S+ (`search` did not prove .*)", line):
+            found[function_of(at[1])] = at[2]
         elif at := re.match(r"fn \w+::(\S+): not proved", line):
             if reason := told.get(at[1].replace("::", "/")):
-                found[at[1].rpartition("::")[2]] = reason
+                found[function_of(at[1])] = reason
     return found
 
 
