@@ -101,9 +101,8 @@ def rounds_of(bodies):
 
 def function_of(path):
     """The name of the function of this path, or, of a closure, of the function in which it stands (`low::lists::fn::Lists::front::map+FnOnce::call_once`)."""
-    outside, is_closure, within = path.rpartition("::fn::")
-    parts = within.removesuffix("::call").removesuffix("::call_mut").removesuffix("::call_once").split("::")
-    return parts[-2] if is_closure and len(parts) > 1 else parts[-1]
+    _, is_closure, within = path.rpartition("::fn::")
+    return re.sub(r"::call(_mut|_once)?$", "", within).split("::")[-2] if is_closure else within.rpartition("::")[2]
 
 
 def refusals(said):
