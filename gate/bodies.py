@@ -1,6 +1,6 @@
 """Tries wrong bodies in rounds: one check of a crate in which many functions have a wrong body each, and which tells of each of them.
 
-A round has at most one wrong body of the functions of a name. A wrong body changes no contract, so what each other function owes is what it owed before,
+A round has at most one wrong body of a function. A wrong body changes no contract, so what each other function owes is what it owed before,
 and the check goes past what is refused (`rt check --allow-holes`). A body is refused where the prover refuses a goal of the function that
 the body's file is named for. An edit that changes anything else than this function's lines, and what a round doesn't tell, is tried alone, by
 `rt must-fail`."""
@@ -21,6 +21,9 @@ sys.path.insert(0, f"{pathlib.Path(__file__).resolve().parents[1]}/tools")
 import kit
 
 HEAD = re.compile(r"^( *)(?:pub(?:\(\w+\))? )?(?:const |unsafe )*fn (\w+)", re.M)
+OWNER = re.compile(r"^(?:pub(?:\(\w+\))? )?(?:trait|impl(?:<.*?>)?) (?:(?:\w+::)*(\w+(?:<.*>)?) for )?(?:\w+::)*(\w+)", re.M)
+INNER = re.compile(r"(?<=\w)<[^<>]*>(?=[,>])")
+
 CLAUSE = re.compile(r"\b(?:requires|ensures|ghost|invariant)\b")
 NAMELESS = re.compile(r"has no field|is not in scope|has no `|was not admitted|only because a proof file names")
 PARTS = ("src", "specs", "proofs")
@@ -58,13 +61,14 @@ class Body:
         return self.path.name.partition(".")[0]
 
     @property
-    def is_of_its_function(self):
-        """Whether the edit changes nothing but lines of one file of src/ that are of the function that it is named for, and no clause."""
-        files = {file for file, _, _ in self.pairs}
-        text = (self.path.parents[1] / min(files)).read_text("utf-8")
-        is_one = len(files) == 1 and min(files).startswith("src/") and all(text.count(old) == 1 for _, old, _ in self.pairs)
-        has_clause = any(CLAUSE.search(old + new) for _, old, new in self.pairs)
-        return is_one and not has_clause and all(is_in_function(text, old, self.function) for _, old, _ in self.pairs)
+    def place(self):
+        """The path, in its crate, of the function that it is named for, if the edit changes nothing but lines of one file of src/ that are of this one
+        function, and no clause; otherwise nothing."""
+        folder, file = self.path.parents[1], min(file for file, _, _ in self.pairs)
+        text = (folder / file).read_text("utf-8")
+        is_plain = file.startswith("src/") and all(it == file and text.count(old) == 1 and not CLAUSE.search(old + new) for it, old, new in self.pairs)
+        places = {function_at(text, old) for _, old, _ in self.pairs} if is_plain else {()}
+        return path_at(folder, file, *min(places)) if len(places) == 1 and min(places)[-1:] == (self.function,) else None
 
 
 def put_into(folder, bodies):
@@ -79,40 +83,57 @@ def put_into(folder, bodies):
         file.write_text(text, "utf-8")
 
 
-def is_in_function(text, old, function):
-    """Whether a text is of the lines of a function: the last head of a function up to the text's end is this one's, and the text has it, or its
-    line is further in."""
+def function_at(text, old):
+    """The names of the function of whose lines a text is: of the trait and of the type that it is of, if any, and its own; or nothing. The last head of a
+    function up to the text's end is this one's, and the text has it, or its line is further in."""
     at = text.find(old)
-    heads = HEAD.findall(text[: at + len(old)])
+    heads = list(HEAD.finditer(text[: at + len(old)]))
     line = text[text.rfind("\n", 0, at) + 1 :]
-    is_further_in = bool(heads) and len(line) - len(line.lstrip(" ")) > len(heads[-1][0])
-    return bool(heads) and heads[-1][1] == function and (is_further_in or bool(HEAD.search(old) or HEAD.match(line)))
+    is_further_in = bool(heads) and len(line) - len(line.lstrip(" ")) > len(heads[-1][1])
+    if not heads or not (is_further_in or HEAD.search(old) or HEAD.match(line)):
+        return ()
+    owners = OWNER.findall(text[: heads[-1].start()]) if heads[-1][1] else []
+    return *(owners or [("", "")])[-1], heads[-1][2]
+
+
+def path_at(folder, file, trait, owner, name):
+    """The path, in its crate, of the function of these names in a file of a crate's src/. One of a type alone stands in the module that declares the type,
+    and behind a trait's name stand those of what it is given (`Lists`, `From<io::Error>`: `ListsFromError`)."""
+    declared = re.compile(rf"^(?:pub(?:\(\w+\))? )?(?:struct|enum|trait) {owner}\b", re.M)
+    homes = [] if trait or not owner else [it for it in sorted(folder.glob("src/**/*.rt")) if declared.search(it.read_text("utf-8"))]
+    module = (homes[0].relative_to(folder) if len(homes) == 1 else pathlib.PurePath(file)).with_suffix("").parts[1:]
+    while INNER.search(trait):
+        trait = INNER.sub("", trait)
+    of_trait = "".join(it.rpartition("::")[2] for it in re.split(r"[<, >]+", trait))
+    names = [*(module[:-1] if module[-1] in ("lib", "main", "mod") else module), owner + of_trait, name]
+    return "::".join(filter(None, names))
 
 
 def rounds_of(bodies):
-    """The bodies in rounds, each with one of the functions of a name at most, and those that are tried alone."""
+    """The bodies in rounds, each with one of a function at most, and those that are tried alone."""
     of_function = collections.defaultdict(list)
     for body in bodies:
-        of_function[body.is_of_its_function and body.function].append(body)
-    alone = of_function.pop(False, [])
+        of_function[body.place].append(body)
+    alone = of_function.pop(None, [])
     length = max(map(len, of_function.values()), default=0)
     return [[group[at] for group in of_function.values() if at < len(group)] for at in range(length)], alone
 
 
 def function_of(path):
-    """The name of the function of this path, or, of a closure, of the function in which it stands (`low::lists::fn::Lists::front::map+FnOnce::call_once`)."""
-    _, is_closure, within = path.rpartition("::fn::")
-    return re.sub(r"::call(_mut|_once)?$", "", within).split("::")[-2] if is_closure else within.rpartition("::")[2]
+    """The path of this function in its crate, or, of a closure, that of the function in which it stands (`lists::Lists::front` of
+    `lists::fn::Lists::front::map+FnOnce::call_once`)."""
+    closure = re.fullmatch(r"(|.*::)fn::(.+?)::[^:]+(?:::call(?:_mut|_once)?)?", path)
+    return closure[1] + closure[2] if closure else path
 
 
 def refusals(said):
-    """By their names, the functions of which the prover refuses a goal, and what it says of one."""
+    """By their paths in the crate, the functions of which the prover refuses a goal, and what it says of one."""
     told, found = {}, {}
     for line in said.splitlines():
         if at := re.match(r"(?:\./)?proofs/(\S+)/\w+\.antt:\d+:\d+: error: (.*)", line):
             if not NAMELESS.search(at[2]):
                 told.setdefault(at[1], at[2])
-        elif at := re.match(r"fn (\S+): no proof: expected answers in \S+ (`search` did not prove .*)", line):
+        elif at := re.match(r"fn \w+::(\S+): no proof: expected answers in \S+ (`search` did not prove .*)", line):
             found[function_of(at[1])] = at[2]
         elif at := re.match(r"fn \w+::(\S+): not proved", line):
             if reason := told.get(at[1].replace("::", "/")):
@@ -223,12 +244,12 @@ class Rounds:
         found = refusals(self.run(("tries", name), at / "crates" / name, "check", "--allow-holes", "--jobs", "1")[1])
         if self.proved.setdefault(name, at) != at:
             shutil.rmtree(at)
-        if not found.keys() <= {body.function for body in bodies}:
+        if not found.keys() <= {body.place for body in bodies}:
             # (a goal of a function that is as it was: then the round tells nothing)
             return bodies
         left = []
         for body in bodies:
-            reason = found.get(body.function)
+            reason = found.get(body.place)
             left += [] if reason else [body]
             self.refused.update({body: reason[:160]} if reason else {})
         return left

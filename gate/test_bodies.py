@@ -1,6 +1,7 @@
 """A test of `bodies.py`: which wrong bodies share a round, and what counts as refused. It calls no prover."""
 import os
 import pathlib
+import shutil
 import sys
 import tempfile
 
@@ -12,8 +13,31 @@ import figures
 ROOM = tempfile.TemporaryDirectory()
 CRATE = pathlib.Path(ROOM.name, "low")
 FILES = {
-    "src/lists.rt": "const MOST: u8 = 1;\n\nimpl Lists {\n    pub fn front(&self) {\n        a\n    }\n\n    fn back() { a2 }\n}\n\nconst LEAST: u8 = 2;\n",
+    "src/lists.rt": "const MOST: u8 = 1;\n\npub struct Lists;\n\nimpl Lists {\n    pub fn front(&self) {\n        a\n    }\n\n    fn back() { a2 }\n}\n\nconst LEAST: u8 = 2;\n",
     "src/lib.rt": "pub(crate) fn f() {\n    c\n}\n",
+    "src/rows.rt": """\
+impl<T: Into<u8>> fmt::Display for Rows<'_, T> {
+    fn fmt() { r }
+}
+
+impl Rows {
+    fn fmt() { s }
+}
+
+impl Lists {
+    fn fmt() { w }
+}
+
+impl<T> Play<io::Held<Vec<T>>, Seat<T::One, T>> for Rows<'_, T> {
+    fn fmt() { x }
+}
+
+pub trait Made {
+    fn fmt() { t }
+}
+
+fn fmt() { u }
+""",
     "src/a/mod.rt": "fn f() {\n    c\n}\n",
     "src/a/b.rt": "fn f() {\n    c\n}\n",
     "specs/Words.antt": "def word = c\n",
@@ -45,7 +69,12 @@ ELSEWHERE = body("f.x", "src/lib.rt", "    c", "    d")
 ALSO_F = body("f.y", "src/a/b.rt", "    c", "    d")
 ALONE = [WORD, CLAUSE, TWICE, BOTH, MOST, LEAST, FILES_OF_TWO]
 assert bodies.rounds_of([FRONT, ALSO, BACK, *ALONE]) == ([[FRONT, BACK], [ALSO]], ALONE)
-assert bodies.rounds_of([ELSEWHERE, ALSO_F]) == ([[ELSEWHERE], [ALSO_F]], []), "functions of one name aren't told apart"
+OF_MOD = body("f.z", "src/a/mod.rt", "    c", "    d")
+OF_ROWS = [body(f"fmt.{it}", "src/rows.rt", it, "v") for it in ("{ r", "{ s", "{ w", "{ x", "{ t", "{ u")]
+assert [it.place for it in (FRONT, BACK, ELSEWHERE, ALSO_F, OF_MOD)] == ["lists::Lists::front", "lists::Lists::back", "f", "a::b::f", "a::f"]
+PLACES = ["rows::RowsDisplay::fmt", "rows::Rows::fmt", "lists::Lists::fmt", "rows::RowsPlayHeldSeat::fmt", "rows::Made::fmt", "rows::fmt"]
+assert [it.place for it in OF_ROWS] == PLACES
+assert bodies.rounds_of([ELSEWHERE, ALSO_F, OF_MOD, *OF_ROWS]) == ([[ELSEWHERE, ALSO_F, OF_MOD, *OF_ROWS]], []), "functions of one name are told apart"
 assert bodies.rounds_of([]) == ([], [])
 assert body("f.x", old="a", new="").pairs == (("src/lists.rt", "a", ""),), "a text may be nothing"
 assert body("f.x", old=" a: b", new="b").pairs == (("src/lists.rt", " a: b", "b"),), "one space behind the colon is left out, and no more"
@@ -65,8 +94,9 @@ fn low::lists::fn::Lists::sum::fold: not proved
 fn low::lists::fn::first::map+FnOnce::call_once: no proof: expected answers in ./proofs/lists/fn/first/map+FnOnce/call_once/Answers.antt; `search` did not prove `returns`
 fn low::lists::Maker::call: no proof: expected answers in ./proofs/lists/Maker/call/Answers.antt; `search` did not prove `returns`
 """
-assert list(bodies.refusals(SAID)) == ["front", "is_full", "sum", "first", "call"], "a goal, a closure's as its function's, no missing name, and no call of what isn't proved"
-assert bodies.refusals(SAID)["front"] == "`returns`: the two types differ"
+PATHS = ["lists::Lists::front", "lists::is_full", "lists::Lists::sum", "lists::first", "lists::Maker::call"]
+assert list(bodies.refusals(SAID)) == PATHS, "a goal, a closure's as its function's, no missing name, and no call of what isn't proved"
+assert bodies.refusals(SAID)["lists::Lists::front"] == "`returns`: the two types differ"
 
 REFUSED = [
     "rt: must-fail low/front.is_the_back.edit: refused, as it must be: ./src/lists.rt:5:9: error: `returns`: the two types differ",
@@ -93,6 +123,38 @@ TOWER = {"low": ("low:", []), "mid": ("mid: low", ["low"]), "high": ("high: mid"
 assert not save_time(["high"], 5, TOWER) and save_time(["high"], 6, TOWER), "one crate is checked once more for them"
 assert save_time(["low", "high"], 6, TOWER), "two are"
 
+
+class Said(bodies.Rounds):
+    """Rounds of which each check says that goals of these functions of the crate aren't proved."""
+
+    def __init__(self, room, *paths):
+        super().__init__(room, TOWER, [], room)
+        self.lines = "".join(f"fn low::{it}: no proof: expected answers in ./proofs; `search` did not prove `returns`\n" for it in paths)
+        self.proved["low"] = CRATE
+
+    def furnish(self, name, over):
+        at = pathlib.Path(tempfile.mkdtemp(dir=self.room))
+        shutil.copytree(CRATE, at / "crates" / name)
+        return at
+
+    def run(self, task, at, *words):
+        return 1, self.lines
+
+
+def left_of(tried, *paths):
+    """The bodies of a round of which it doesn't tell, where goals of these functions are refused."""
+    with tempfile.TemporaryDirectory() as room:
+        told = Said(room, *paths)
+        left = told.try_round("low", tried)
+        assert told.refused.keys() == {*tried} - {*left}
+        return left
+
+
+assert left_of([FRONT, ELSEWHERE, ALSO_F], "lists::Lists::front", "f", "a::b::f") == []
+assert left_of([FRONT, ELSEWHERE, ALSO_F], "lists::fn::Lists::front::map+FnOnce::call_once", "a::b::f") == [ELSEWHERE], "a body that isn't refused is left"
+assert left_of([FRONT, ELSEWHERE, ALSO_F], "lists::Lists::front", "f", "a::f") == [FRONT, ELSEWHERE, ALSO_F], "a goal of a function that is as it was, though of one's name"
+assert left_of([FRONT, BACK], "lists::Lists::front", "lists::Others::back") == [FRONT, BACK]
+
 bodies.put_into(CRATE, [body("front.is_further_on", new="        { a2 }"), BACK])
 assert (CRATE / "src/lists.rt").read_text("utf-8") == FILES["src/lists.rt"].replace("        a\n", "        { a2 }\n").replace("{ a2 }\n}", "{ b2 }\n}")
 
@@ -108,7 +170,6 @@ with tempfile.TemporaryDirectory() as room:
     assert tower.run(("tries", "mid"), room, "must-fail", "mid") == (-9, "rt must-fail mid said nothing, and ended with -9"), "what was killed refused nothing"
     del tower.seconds["tries", "mid"]
     assert figures.text_of(tower, "a kit", 59.4, 20.2).splitlines()[-1] == "| `low` | 62 | | | |", "a crate that no wrong body needs has no row"
-
 
 
 class Told(bodies.Rounds):
