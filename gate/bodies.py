@@ -110,13 +110,14 @@ def path_at(folder, file, trait, owner, name):
 
 
 def rounds_of(bodies):
-    """The bodies in rounds, each with one of a function at most, and those that are tried alone."""
+    """The bodies in rounds, each with one of a function at most, and those that are tried alone. A round has bodies of all functions of the rounds
+    before it, so what a check proves of a function stays proved until its first body is tried."""
     of_function = collections.defaultdict(list)
     for body in bodies:
         of_function[body.place].append(body)
     alone = of_function.pop(None, [])
     length = max(map(len, of_function.values()), default=0)
-    return [[group[at] for group in of_function.values() if at < len(group)] for at in range(length)], alone
+    return [[group[at] for group in of_function.values() if at < len(group)] for at in reversed(range(length))], alone
 
 
 def function_of(path):
@@ -127,17 +128,22 @@ def function_of(path):
 
 
 def refusals(said):
-    """By their paths in the crate, the functions of which the prover refuses a goal, and what it says of one."""
-    told, found = {}, {}
+    """By their paths in the crate, the functions of which the prover refuses a goal, and what it says of one: that the function's answer to it is refused, or
+    that it is not proved, where no answer names a goal that isn't there (then it might be the answer to this one)."""
+    told, renamed, notes, found = {}, set(), [], {}
     for line in said.splitlines():
         if at := re.match(r"(?:\./)?proofs/(\S+)/\w+\.antt:\d+:\d+: error: (.*)", line):
-            if not NAMELESS.search(at[2]):
-                told.setdefault(at[1], at[2])
-        elif at := re.match(r"fn \w+::(\S+): no proof: expected answers in \S+ (`search` did not prove .*)", line):
-            found[function_of(at[1])] = at[2]
-        elif at := re.match(r"fn \w+::(\S+): not proved", line):
-            if reason := told.get(at[1].replace("::", "/")):
-                found[function_of(at[1])] = reason
+            told.update({} if NAMELESS.search(at[2]) or at[1] in told else {at[1]: at[2]})
+            renamed.update([at[1]] if ".Goals` has no " in at[2] else [])
+        elif at := re.match(r"note: src/\S+: (it is not proved that .*)", line):
+            notes.append(at[1])
+        elif at := re.match(r"fn \w+::(\S+): (.*)", line):
+            place = at[1].replace("::", "/")
+            if searched := re.match(r"no proof: expected answers in \S+ (`search` did not prove .*)", at[2]):
+                found[function_of(at[1])] = searched[1]
+            elif at[2].startswith("not proved") and (place in told or notes and place not in renamed):
+                found[function_of(at[1])] = told.get(place) or notes[0]
+            notes.clear()
     return found
 
 
@@ -185,13 +191,13 @@ class Rounds:
     """The wrong bodies of some crates of a tree, and a room beside it for their rounds.
 
     The libraries below are those that the tree has, each proved once more where it has none of the same sources; or those that a run of `rt ci` made in another copy of the
-    tree, which fit one another. Then the first round of a crate proves its other functions too, which the next ones go over."""
+    tree, which fit one another. Each round of a crate goes over what the one before it proved; the first proves its other functions too, where nothing has."""
 
     def __init__(self, root, every, names, room, proved=None):
         self.root, self.crates, self.room = pathlib.Path(root), every, pathlib.Path(room)
         self.libraries = proved and pathlib.Path(proved)
         self.stamps = {}
-        self.names, self.proved, self.refused, self.seconds = names, {}, {}, collections.Counter()
+        self.names, self.proved, self.last, self.refused, self.seconds = names, {}, {}, {}, collections.Counter()
         self.bodies = [Body.read(name, it) for name in names for it in sorted(self.root.glob(f"crates/{name}/must-fail/*.edit"))]
         self.planned = {name: rounds_of([body for body in self.bodies if body.crate == name]) for name in names}
 
@@ -239,11 +245,12 @@ class Rounds:
 
     def try_round(self, name, bodies):
         """Tries a round. Returns those of its bodies of which it doesn't tell that they are refused."""
-        at = self.furnish(name, self.proved.get(name, self.root))
+        at = self.furnish(name, self.last.get(name) or self.proved.get(name, self.root))
         put_into(at / "crates" / name, bodies)
         found = refusals(self.run(("tries", name), at / "crates" / name, "check", "--allow-holes", "--jobs", "1")[1])
-        if self.proved.setdefault(name, at) != at:
-            shutil.rmtree(at)
+        if name in self.last:
+            shutil.rmtree(self.last[name])
+        self.last[name] = at
         if not found.keys() <= {body.place for body in bodies}:
             # (a goal of a function that is as it was: then the round tells nothing)
             return bodies
@@ -256,7 +263,7 @@ class Rounds:
 
     def try_alone(self, name, bodies):
         """Tries these bodies one at a time. Returns what was said, if one of them isn't refused for a goal."""
-        at = self.furnish(name, self.proved.get(name, self.root))
+        at = self.furnish(name, self.proved.get(name) or self.last.get(name, self.root))
         os.makedirs(at / "crates" / name / "must-fail")
         for body in bodies:
             shutil.copy2(body.path, at / "crates" / name / "must-fail")

@@ -7,8 +7,9 @@ it came there; what a play leaves, and an order that `explore` finds, print thei
 
     python3 gate/fuzz.py PROGRAM [--seconds N] [--turns N] [--seed S] [--turn T]
 
-Without words 120 seconds with the seed 1, so that a run of the gate fails by what was changed alone. A turn goes by the seed and its number alone: --turn T tries one again. A
-failure is told with its command line, and the files that it needs are kept."""
+Without words TURNS turns with the seed 1, which are the same on each machine, so that a run of the gate fails by what was changed alone: some two minutes of processor
+time on the machine of the figures in docs/GATE.md. A turn goes by the seed and its number alone: --turn T tries one again. A failure is told with its command line, and the files
+that it needs are kept."""
 import argparse
 import collections
 import glob
@@ -31,6 +32,7 @@ import hostile
 import mutations
 import reports
 
+TURNS = 4500
 SECONDS, MEGABYTES = 10, 200
 # The most actors of a play, and how many megabytes a thread's stack takes.
 THREADS, STACK = 16, 8
@@ -376,10 +378,9 @@ def main(words):
     asked.add_argument("--seed", default="1")
     asked.add_argument("--turn", type=int)
     given = asked.parse_args(words)
-    bounds = [given.turns, given.turn]
-    turns = range(given.turn, given.turn + 1) if given.turn is not None else range(given.turns if given.turns is not None else 1 << 40)
-    seconds = given.seconds or (120 if bounds == [None, None] else 1 << 40)
-    counts, failures = fuzzed(given.program, given.seed, turns, seconds)
+    count = given.turns if given.turns is not None else 1 << 40 if given.seconds else TURNS
+    turns = range(given.turn, given.turn + 1) if given.turn is not None else range(count)
+    counts, failures = fuzzed(given.program, given.seed, turns, given.seconds or 1 << 40)
     print("".join(f"fuzz: {failure}\n" for failure in failures), end="")
     print("".join(f"fuzz: {counts[kind]} times {kind}\n" for kind in sorted(counts)), end="")
     print(f"fuzz: seed {given.seed}, {sum(counts.values())} turns, {len(failures)} failures")

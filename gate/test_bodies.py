@@ -68,7 +68,7 @@ FILES_OF_TWO = body("f.of_two_files", "src/lib.rt", "    c", "    d", "file: src
 ELSEWHERE = body("f.x", "src/lib.rt", "    c", "    d")
 ALSO_F = body("f.y", "src/a/b.rt", "    c", "    d")
 ALONE = [WORD, CLAUSE, TWICE, BOTH, MOST, LEAST, FILES_OF_TWO]
-assert bodies.rounds_of([FRONT, ALSO, BACK, *ALONE]) == ([[FRONT, BACK], [ALSO]], ALONE)
+assert bodies.rounds_of([FRONT, ALSO, BACK, *ALONE]) == ([[ALSO], [FRONT, BACK]], ALONE), "a round has the functions of those before it"
 OF_MOD = body("f.z", "src/a/mod.rt", "    c", "    d")
 OF_ROWS = [body(f"fmt.{it}", "src/rows.rt", it, "v") for it in ("{ r", "{ s", "{ w", "{ x", "{ t", "{ u")]
 assert [it.place for it in (FRONT, BACK, ELSEWHERE, ALSO_F, OF_MOD)] == ["lists::Lists::front", "lists::Lists::back", "f", "a::b::f", "a::f"]
@@ -93,8 +93,17 @@ fn low::lists::push: no proof: it calls `low::lists::is_full`, which is not prov
 fn low::lists::fn::Lists::sum::fold: not proved
 fn low::lists::fn::first::map+FnOnce::call_once: no proof: expected answers in ./proofs/lists/fn/first/map+FnOnce/call_once/Answers.antt; `search` did not prove `returns`
 fn low::lists::Maker::call: no proof: expected answers in ./proofs/lists/Maker/call/Answers.antt; `search` did not prove `returns`
+./proofs/lists/Lists/join/Answers.antt:8:70: error: `returns`: record `Rattle.low.proofs.lists.Lists.join.Lts.After-f` has no field `in_ok-f`
+note: src/lists.rt:5:9: it is not proved that what `f` requires holds at this call (`f-requires`)
+help: test a value from outside
+note: a goal may be false even if its line does not say so
+fn low::lists::Lists::join: not proved; it stands on `returns`, which antt refuses
+./proofs/lists/Lists/part/Answers.antt:8:70: error: `returns`: module `Rattle.low.proofs.lists.Lists.part.Goals` has no `returns-in_err-f` that can be named from here
+note: src/lists.rt:5:9: it is not proved that what the function ensures holds when it returns (`returns-in_err-g`)
+fn low::lists::Lists::part: not proved; it stands on `returns`, which antt refuses
+fn low::lists::Lists::take: not proved
 """
-PATHS = ["lists::Lists::front", "lists::is_full", "lists::Lists::sum", "lists::first", "lists::Maker::call"]
+PATHS = ["lists::Lists::front", "lists::is_full", "lists::Lists::sum", "lists::first", "lists::Maker::call", "lists::Lists::join"]
 assert list(bodies.refusals(SAID)) == PATHS, "a goal, a closure's as its function's, no missing name, and no call of what isn't proved"
 assert bodies.refusals(SAID)["lists::Lists::front"] == "`returns`: the two types differ"
 
@@ -130,9 +139,10 @@ class Said(bodies.Rounds):
     def __init__(self, room, *paths):
         super().__init__(room, TOWER, [], room)
         self.lines = "".join(f"fn low::{it}: no proof: expected answers in ./proofs; `search` did not prove `returns`\n" for it in paths)
-        self.proved["low"] = CRATE
+        self.proved["low"], self.overs = CRATE, []
 
     def furnish(self, name, over):
+        self.overs.append(over)
         at = pathlib.Path(tempfile.mkdtemp(dir=self.room))
         shutil.copytree(CRATE, at / "crates" / name)
         return at
@@ -147,6 +157,9 @@ def left_of(tried, *paths):
         told = Said(room, *paths)
         left = told.try_round("low", tried)
         assert told.refused.keys() == {*tried} - {*left}
+        first = told.last["low"]
+        assert told.try_round("low", tried) == left and told.overs == [CRATE, first], "a round goes over what the one before it proved"
+        assert not first.exists() and told.last["low"].exists()
         return left
 
 
