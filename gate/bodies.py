@@ -274,9 +274,12 @@ class Rounds:
         return "\n".join(lines) if any(body not in self.refused for body in bodies) else ""
 
     def try_crate(self, name):
-        """Tries all bodies of a crate. Returns what was said of those that aren't refused."""
+        """Tries all bodies of a crate. Those of which a round doesn't tell have rounds of their own, since a function's goals aren't tried while one that it
+        calls isn't proved. Returns what was said of those that aren't refused."""
         rounds, alone = self.planned[name]
-        left = [body for bodies in rounds for body in self.try_round(name, bodies)]
+        for _ in range(2):
+            left = [body for bodies in rounds for body in self.try_round(name, bodies)]
+            rounds = rounds_of(left)[0]
         return self.try_alone(name, [*alone, *left]) if alone or left else ""
 
     def carry_out(self, lanes, is_late=lambda name: False):

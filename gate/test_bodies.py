@@ -168,6 +168,25 @@ assert left_of([FRONT, ELSEWHERE, ALSO_F], "lists::fn::Lists::front::map+FnOnce:
 assert left_of([FRONT, ELSEWHERE, ALSO_F], "lists::Lists::front", "f", "a::f") == [FRONT, ELSEWHERE, ALSO_F], "a goal of a function that is as it was, though of one's name"
 assert left_of([FRONT, BACK], "lists::Lists::front", "lists::Others::back") == [FRONT, BACK]
 
+
+class Masked(Said):
+    """Rounds of which each tells of the next of these functions, and what is tried alone is told by its labels."""
+
+    def run(self, task, at, *words):
+        return 1, "".join(self.lines.splitlines()[len(self.overs) - 1 : len(self.overs)])
+
+    def try_alone(self, name, bodies):
+        return f"{[body.label for body in bodies]}"
+
+
+with tempfile.TemporaryDirectory() as room:
+    told = Masked(room, "lists::Lists::front", "f")
+    told.planned["low"] = bodies.rounds_of([FRONT, ELSEWHERE])
+    assert told.try_crate("low") == "" and told.refused.keys() == {FRONT, ELSEWHERE}, "what is masked is tried in a round of its own"
+    told = Masked(room, "lists::Lists::front")
+    told.planned["low"] = bodies.rounds_of([FRONT, ELSEWHERE, WORD])
+    assert told.try_crate("low") == f"{[WORD.label, ELSEWHERE.label]}", "and then alone"
+
 bodies.put_into(CRATE, [body("front.is_further_on", new="        { a2 }"), BACK])
 assert (CRATE / "src/lists.rt").read_text("utf-8") == FILES["src/lists.rt"].replace("        a\n", "        { a2 }\n").replace("{ a2 }\n}", "{ b2 }\n}")
 
