@@ -20,6 +20,7 @@ use std::{env, io};
 /// The logic that the program's proofs rest on, as `rt version` names it; the gate compares the two.
 const LOGIC: &str = "dac8208d650f15bf";
 
+/// Does what the words of the command line ask, and ends with the exit status.
 fn main(rt: HostRuntime) -> ExitCode {
     match words_given(&rt) {
         Ok(Some(words)) => do_words(&rt, &rt, words),
