@@ -7,9 +7,8 @@ it came there; what a play leaves, and an order that `explore` finds, print thei
 
     python3 gate/fuzz.py PROGRAM [--seconds N] [--turns N] [--seed S] [--turn T]
 
-Without words TURNS turns with the seed 1, which are the same on each machine, so that a run of the gate fails by what was changed alone: some two minutes of processor
-time on the machine of the figures in docs/GATE.md. A turn goes by the seed and its number alone: --turn T tries one again. A failure is told with its command line, and the files
-that it needs are kept."""
+Without words TURNS turns with the seed 1, some two minutes of processor time. They are the same on each machine, so that a run of the gate fails by what was changed alone. A turn
+goes by the seed and its number alone: --turn T tries one again. A failure is told with its command line, and the files that it needs are kept."""
 import argparse
 import collections
 import glob
