@@ -22,8 +22,8 @@ import kit
 
 HEAD = re.compile(r"^( *)(?:pub(?:\(\w+\))? )?(?:const |unsafe )*fn (\w+)", re.M)
 OWNER = re.compile(r"^(?:pub(?:\(\w+\))? )?(?:trait|impl(?:<.*?>)?) (?:(?:\w+::)*(\w+(?:<.*>)?) for )?(?:\w+::)*(\w+)", re.M)
+# What a type is given that a trait is given.
 INNER = re.compile(r"(?<=\w)<[^<>]*>(?=[,>])")
-
 CLAUSE = re.compile(r"\b(?:requires|ensures|ghost|invariant)\b")
 NAMELESS = re.compile(r"has no field|is not in scope|has no `|was not admitted|only because a proof file names")
 PARTS = ("src", "specs", "proofs")
