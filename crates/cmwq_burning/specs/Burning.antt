@@ -4,7 +4,6 @@ use Rattle.std.specs.List.{list_any, sum_by}
 use Rattle.cmwq_types.specs.Contents.{ScenarioContents}
 use Rattle.cmwq_types.specs.Scenario.{work_at}
 use Rattle.cmwq_types.specs.declared.instr.Instr.{Instr}
-use Rattle.cmwq_types.specs.declared.reply.Event.{Event}
 use Rattle.cmwq_types.specs.declared.reply.Reply.{Reply}
 use Rattle.cmwq_table.specs.State.{State, running_at}
 use Rattle.cmwq_table.specs.declared.state.Running.{Running}
