@@ -201,12 +201,6 @@ class Rounds:
         self.bodies = [Body.read(name, it) for name in names for it in sorted(self.root.glob(f"crates/{name}/must-fail/*.edit"))]
         self.planned = {name: rounds_of([body for body in self.bodies if body.crate == name]) for name in names}
 
-    @property
-    def save_time(self):
-        """Whether rounds take less of the processor's time than `rt ci` over the proofs that it makes: a body takes some 17 seconds less in a round, and
-        each crate that has bodies is checked once more, some 85 seconds."""
-        return len(self.bodies) > 5 * len(self.names)
-
     def furnish(self, name, over):
         """A folder of its own with the crate, the libraries below it as they were built, and what a check of the crate kept."""
         at = pathlib.Path(tempfile.mkdtemp(prefix=f"{name}-", dir=self.room))
@@ -282,17 +276,17 @@ class Rounds:
             rounds = rounds_of(left)[0]
         return self.try_alone(name, [*alone, *left]) if alone or left else ""
 
-    def carry_out(self, lanes, is_late=lambda name: False):
-        """Tries the bodies of each crate for which it isn't late yet, as many crates side by side as there are lanes; where no run made the libraries, each
-        crate is proved first, once those below it are. Gives what was said of each crate that was tried or isn't proved, as it ends: nothing, where all its
-        bodies are refused."""
+    def carry_out(self, lanes, is_late=lambda: False):
+        """Tries the bodies of each crate, in their order, as many crates side by side as there are lanes, and begins none once it is late; where no run made
+        the libraries, each crate is proved first, once those below it are. Gives what was said of each crate that was tried or isn't proved, as it ends:
+        nothing, where all its bodies are refused."""
         above = collections.Counter(it for name in self.names for it in crates.below(self.crates, name))
         self.stamps = stamps_of(self.root, self.names) if self.libraries else {}
         waiting = [(self.try_crate, name) for name in self.names] if self.libraries else [(self.prove, name) for name, _ in above.most_common()]
         running = {}
         with concurrent.futures.ThreadPoolExecutor(lanes) as pool:
             while waiting or running:
-                waiting = [it for it in waiting if not is_late(it[1])]
+                waiting = [] if is_late() else waiting
                 ready = [it for it in waiting if it[0] == self.try_crate or all(dep in self.proved for dep in crates.below(self.crates, it[1])[:-1])]
                 for task in ready[: lanes - len(running)]:
                     waiting.remove(task)

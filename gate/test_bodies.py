@@ -117,20 +117,7 @@ REFUSED = [
 assert bodies.reasons(REFUSED) == {"low/front.is_the_back.edit": "./src/lists.rt:5:9: error: `returns`: the two types differ"}
 
 
-def save_time(names, count, every):
-    """Whether rounds save time for so many bodies of each of these crates, of a tree with these."""
-    with tempfile.TemporaryDirectory() as room:
-        for path in [pathlib.Path(room, "crates", name, "must-fail", f"f.{it}.edit") for name in names for it in range(count)]:
-            path.parent.mkdir(parents=True, exist_ok=True)
-            path.write_text("file: src/lib.rt\nold: a\nnew: b\n", "utf-8")
-            path.parents[1].joinpath("src").mkdir(exist_ok=True)
-            path.parents[1].joinpath("src/lib.rt").write_text("fn f() {\n    a\n}\n", "utf-8")
-        return bodies.Rounds(room, every, names, room).save_time
-
-
 TOWER = {"low": ("low:", []), "mid": ("mid: low", ["low"]), "high": ("high: mid", ["mid"])}
-assert not save_time(["high"], 5, TOWER) and save_time(["high"], 6, TOWER), "one crate is checked once more for them"
-assert save_time(["low", "high"], 6, TOWER), "two are"
 
 
 class Said(bodies.Rounds):
@@ -205,10 +192,14 @@ with tempfile.TemporaryDirectory() as room:
 
 
 class Told(bodies.Rounds):
-    """Rounds of which each crate's takes no time, and finds nothing to say."""
+    """Rounds of which each crate's finds nothing to say."""
 
     def try_crate(self, name):
+        BEGUN.append(name)
         return ""
+
+
+BEGUN = []
 
 
 with tempfile.TemporaryDirectory() as room:
@@ -216,7 +207,13 @@ with tempfile.TemporaryDirectory() as room:
     tower.proved = {name: room for name in TOWER}
     tower.prove = lambda name: ""
     assert sorted(name for name, _ in tower.carry_out(1)) == ["high", "low", "mid"]
-    assert sorted(name for name, _ in tower.carry_out(1, lambda name: name == "mid")) == ["high", "low"], "a crate for which it is late isn't begun"
+    BEGUN.clear()
+    assert [name for name, _ in tower.carry_out(1, lambda: len(BEGUN) == 1)] == BEGUN and len(BEGUN) == 1, "none is begun once it is late"
+    tower.libraries, tower.names = pathlib.Path(room), ["mid", "low", "high"]
+    for name in TOWER:
+        pathlib.Path(room, "crates", name).mkdir(parents=True)
+    bodies.stamps_of = lambda root, names: {}
+    assert [name for name, _ in tower.carry_out(1)] == ["mid", "low", "high"], "they are begun in their order"
 
 DONE = "rt: ok; must-fail edits: none; done in this run: {} proofs (of crates and of their tests)"
 assert figures.is_from_nothing([DONE.format("66 of the 66")]) and figures.is_from_nothing([DONE.format("all 66")])

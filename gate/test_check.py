@@ -1,6 +1,8 @@
-"""A test of `check`: what makes a crate's must-fail edits run again, and what it refuses. It calls no prover."""
+"""A test of `check`: what makes a crate's must-fail edits run again, in which order and until when, and what it refuses. It calls no prover."""
+import contextlib
 import importlib.machinery
 import importlib.util
+import io
 import os
 import subprocess
 import sys
@@ -37,7 +39,7 @@ def made(room):
     for path, text in FILES.items():
         write(room, path, text)
     edits = check.Edits(room, "a kit")
-    assert edits.plan("00")[:2] == (["high", "low", "side"], []), "with no sums all are tried"
+    assert edits.plan("00")[1:3] == (["high", "low", "side"], []), "with no sums all are tried"
     edits.write(edits.owners)
 
 
@@ -46,7 +48,7 @@ def changed(path, text, kit="a kit"):
     with tempfile.TemporaryDirectory() as room:
         made(room)
         write(room, path, text)
-        return check.Edits(room, kit).plan("00")[:2]
+        return check.Edits(room, kit).plan("00")[1:3]
 
 
 def faults(path, text):
@@ -95,28 +97,70 @@ with tempfile.TemporaryDirectory() as room:
     check.Edits(room, "another kit").write(["low", "side"])
     write(room, "crates/high/src/lib.rt", "fn high()  {}\n")
     check.Edits(room, "another kit").write(["high"])
-    assert check.Edits(room, "another kit").plan("00")[:2] == ([], [])
-    assert check.Edits(room, "a kit").plan("00")[:2] == (["high"], []), "the sums of another kit are kept as far as they hold"
+    assert check.Edits(room, "another kit").plan("00")[1:3] == ([], [])
+    assert check.Edits(room, "a kit").plan("00")[1:3] == (["high"], []), "the sums of another kit are kept as far as they hold"
 
 with tempfile.TemporaryDirectory() as room:
     made(room)
     write(room, "crates/low/src/lib.rt", "fn low()  {}\n")
     check.Edits(room, "a kit").write(["low"])
-    assert check.Edits(room, "a kit").plan("00")[:2] == ([], ["high"]), "what waits goes on waiting"
+    assert check.Edits(room, "a kit").plan("00")[1:3] == ([], ["high"]), "what waits goes on waiting"
     write(room, "crates/high/src/lib.rt", "fn high()  {}\n")
-    assert check.Edits(room, "a kit").plan("00")[:2] == (["high"], []), "and is tried once it changes"
+    assert check.Edits(room, "a kit").plan("00")[1:3] == (["high"], []), "and is tried once it changes"
     check.Edits(room, "a kit").write(["high"])
     write(room, "crates/side/src/lib.rt", "fn side()  {}\n")
     write(room, "crates.txt", "low:\nhigh: low\nside: low\n")
     check.Edits(room, "a kit").write(["side", "low"])
     write(room, "crates/low/src/lib.rt", "fn low() { }\n")
-    orders = [check.Edits(room, "a kit").plan(commit)[1] for commit in ("0", "1", "2")]
+    orders = [check.Edits(room, "a kit").plan(commit)[2] for commit in ("0", "1", "2")]
     assert orders == [["high", "side"], ["side", "high"], ["high", "side"]], "which of those that wait comes first goes by the commit's hash"
 
 with tempfile.TemporaryDirectory() as room:
     made(room)
     chosen = [check.Edits(room, "a kit").plan(commit)[3] for commit in ("0", "1", "2", "3")]
     assert chosen == [["high"], ["low"], ["side"], ["high"]], "one of the skipped is tried all the same"
+
+
+
+class Slow(check.bodies.Rounds):
+    """Rounds of which each crate's take an hour and find nothing to say, one at a time."""
+
+    def __init__(self, edits, names):
+        super().__init__(edits.root, edits.crates, names, edits.root)
+        self.libraries, self.hours = check.pathlib.Path(edits.root), 0
+
+    def try_crate(self, name):
+        self.hours += 1
+        return ""
+
+
+def tried(room, hours):
+    """What a usual run of this tree says, and the bodies that it leaves, where there is time for so many crates."""
+    edits = check.Edits(room, "a kit")
+    rounds, said = Slow(edits, [name for names in edits.plan("00") for name in names]), io.StringIO()
+    with contextlib.redirect_stdout(said):
+        assert check.try_in_rounds(edits, rounds, lambda: rounds.hours == hours) == (0, 0)
+    return said.getvalue(), sorted(check.Edits(room, "a kit").left)
+
+
+check.os.sched_getaffinity = lambda _: {0}
+check.bodies.stamps_of = lambda root, names: {}
+with tempfile.TemporaryDirectory() as room:
+    made(room)
+    write(room, "crates/low/src/lib.rt", "fn low()  {}\n")
+    assert check.Edits(room, "a kit").plan("00") == ([], ["low"], ["high"], ["side"]), "changed crates, then waiting ones, then one more"
+    said, left = tried(room, 1)
+    assert left == ["high", "side"] and said == "check: leaves the bodies of ['high', 'side'] to the next run, which tries them first\n"
+    write(room, "crates/low/src/lib.rt", "fn low()   {}\n")
+    assert check.Edits(room, "a kit").plan("00") == (["high", "side"], ["low"], [], []), "what was left comes first"
+    said, left = tried(room, 2)
+    assert left == ["low"] and "['low']" in said, "a changed crate is left too"
+    assert check.Edits(room, "a kit").plan("00")[:3] == (["low"], [], []), "what is refused is no longer marked"
+    assert tried(room, 9) == ("", []) and "waiting" not in check.pathlib.Path(room, check.SUMS).read_text("utf-8")
+
+now = os.times().elapsed
+assert check.is_late(now - 141 * 60) and not check.is_late(now - 139 * 60), "no crate's bodies are begun after minute 140"
+assert faults("gate/edits.sums", "gone waiting\n") == ["gate/edits.sums: no crate with edits is called gone"]
 
 assert faults("docs/GATE.md", "words\n") == []
 assert len(faults("gate/edits.sums", "gone 00 00 a kit\n")) == 1, "a sum that no crate has"

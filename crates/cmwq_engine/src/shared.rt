@@ -21,7 +21,7 @@ use std::marker::Model;
 use std::sync::{Arc, Wait};
 use thiserror::Error;
 
-/// NotDrawnWhy an instruction was not issued.
+/// The reason why an instruction was not issued.
 #[derive(Clone, Copy, Debug, PartialEq, Eq, Error)]
 pub enum IssueError {
     /// The history has no room for one more entry.

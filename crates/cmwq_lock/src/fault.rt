@@ -9,7 +9,7 @@ use thiserror::Error;
 #[error("64 passes are out")]
 pub struct TooMany;
 
-/// NotDrawnWhy no ticket was drawn.
+/// The reason why no ticket was drawn.
 #[derive(Debug, Drop, PartialEq, Eq, Error)]
 pub enum NotDrawnWhy {
     /// Others drew between the load, which gave `loaded`, and the exchange, which found `found`.
