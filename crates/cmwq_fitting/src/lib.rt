@@ -11,6 +11,7 @@ mod near_misses;
 mod nearness;
 mod numbers;
 mod offer;
+mod shortening;
 
 pub use faults::{TextFault, text_fault};
 pub use gap::Gap;
@@ -23,3 +24,4 @@ pub use meaning::{meant_among, meant_at, nearest_first};
 pub use nearness::nearest;
 pub use numbers::Limits;
 pub use offer::{Offer, offer_at};
+pub use shortening::front_of;
