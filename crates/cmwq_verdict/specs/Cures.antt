@@ -38,7 +38,7 @@ kernel_cure next word = option_map (λ form. written_words (call_name word) form
 -- Flags that are joined by `|`, as in C.
 
 abbrev pub bar_words : List ℕ
-bar_words = codes "flags stand one after another, without |: queue NAME max N FLAG FLAG"
+bar_words = codes "flags stand one after another, without WQ_ and |: queue NAME max N FLAG FLAG"
 
 abbrev pub is_declaration : Next → Bool
 is_declaration (next.Declaration room queues) = true

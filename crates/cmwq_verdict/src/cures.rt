@@ -60,7 +60,7 @@ fn cure_at(
 
 const COMMENT: &[u8] = b"a comment begins with #, and ends with its line";
 
-const BARS: &[u8] = b"flags stand one after another, without |: queue NAME max N FLAG FLAG";
+const BARS: &[u8] = b"flags stand one after another, without WQ_ and |: queue NAME max N FLAG FLAG";
 
 /// Returns these words.
 fn said(alloc: Global, words: &[u8]) -> Result<Option<Vec<u8>>, NoMemory>
