@@ -5,7 +5,9 @@ mod meter;
 
 use crate::meter::Meter;
 use cmwq_advice::take_explain;
-use cmwq_command::{Disk, Manner, ProgramSetting, advise, carry_out, reads_input, remark};
+use cmwq_command::{
+    Disk, Manner, ProgramSetting, UNDONE, advise, advise_undone, carry_out, reads_input, remark,
+};
 use cmwq_outcome::{GOOD, Look, fault, tell};
 use cmwq_play::{Marked, PlayError, read_whole};
 use cmwq_request::request;
@@ -60,6 +62,7 @@ fn do_all<R: AllocGlobal + Threads + Wait + Clock + Sync>(
         let _ = match outcome {
             Err(fault) => advise(rt.alloc(), disk, look, words, fault, &mut errors),
             Ok(GOOD) => remark(rt.alloc(), disk, words, &mut errors),
+            Ok(UNDONE) => advise_undone(rt.alloc(), disk, words, &mut errors),
             Ok(_) => Ok(()),
         };
     }

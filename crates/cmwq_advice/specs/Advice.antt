@@ -1,19 +1,24 @@
 -- What a person is told to do about the fault that a command ended with. The lines are this project's own.
-use Rattle.std.specs.Prelude.{◌≡◌, ◌⊎◌, ℕ, suc, Bool, true, false, List, [], ◌∷◌, ◌++◌, ◌==◌, length, take, drop, Option, None, Some, codes, is_none, option_map, unwrap_or, if◌then◌else◌}
+use Rattle.std.specs.Prelude.{◌≡◌, ◌⊎◌, ℕ, suc, Bool, true, false, List, [], ◌∷◌, ◌++◌, ◌==◌, length, take, drop, Option, None, Some, codes, is_none, option_map, slice_index_or, unwrap_or, if◌then◌else◌}
 use Rattle.std.specs.Borrow.{Bor}
 use Rattle.std.specs.Fmt.{decimal}
 use Rattle.std.specs.List.{flat_map}
-use Rattle.cmwq_types.specs.Contents.{ActorContents, ScenarioContents, WorkContents}
-use Rattle.cmwq_types.specs.Scenario.{expand, work_at}
+use Rattle.cmwq_types.specs.Contents.{ActorContents, ScenarioContents}
+use Rattle.cmwq_types.specs.Scenario.{expand}
 use Rattle.cmwq_types.specs.declared.instr.Instr.{Instr}
 use Rattle.cmwq_table.specs.Table.{run}
+use Rattle.cmwq_fitting.specs.KnownWords.{is_known}
 use Rattle.cmwq_fitting.specs.Nearness.{nearest}
+use Rattle.cmwq_grammar.specs.FaultLaw.{IsFault}
 use Rattle.cmwq_grammar.specs.Grammar.{Spells}
-use Rattle.cmwq_grammar.specs.Instructions.{work_names}
+use Rattle.cmwq_grammar.specs.Instructions.{actor_names, work_names}
+use Rattle.cmwq_grammar.specs.Meaning.{FaultAt}
 use Rattle.cmwq_debug_lines.specs.Orders.{work_named}
 use Rattle.cmwq_draw.specs.Picking.{names_from, undeclared}
+use Rattle.cmwq_exploration.specs.declared.exploration.Exploration.{Exploration}
 use Rattle.cmwq_exploration.specs.declared.exploration.Never.{Never}
 use Rattle.cmwq_exploration.specs.declared.exploration.Never.TheVariants as never
+use Rattle.cmwq_exploration.specs.declared.exploration.Precedence.{Precedence}
 use Rattle.cmwq_asm.specs.declared.fault.AsmError.TheVariants as texts
 use Rattle.cmwq_image.specs.declared.error.ImageError.{ImageError}
 use Rattle.cmwq_image.specs.declared.error.ImageError.TheVariants as images
@@ -153,20 +158,45 @@ asked_work S (Do file (Draw drawing)) = works_asked S drawing.works
 asked_work S (Explore file exploration) = forbidden_work S exploration.never
 asked_work S request = []
 
-abbrev pub name_list : List WorkContents → List ℕ
-name_list works = flat_map (λ work. codes ", " ++ work.name) works
+-- no such name is declared: the name, and all that are, the one first that is most like it
+abbrev pub name_list : (names : List (List ℕ)) → List ℕ
+name_list names = flat_map (λ name. codes ", " ++ name) names
 
--- the word, and all works, the one first whose name is most like it
-abbrev pub uncalled : (file word : List ℕ) → List ℕ
-uncalled file word = codes "  no work of " ++ file ++ codes " is called " ++ word ++ codes "; the nearest first: "
+abbrev pub uncalled : (file kind word : List ℕ) → List ℕ
+uncalled file kind word = codes "  no " ++ kind ++ codes " of " ++ file ++ codes " is called " ++ word ++ codes "; the nearest first: "
 
-abbrev pub works_by : (file word : List ℕ) → ScenarioContents → Option ℕ → List ℕ
-works_by file word S None = line (file ++ codes " has no works")
-works_by file word S (Some w) =
-    uncalled file word ++ (work_at S w).name ++ name_list (take w S.works) ++ name_list (drop (suc w) S.works) ++ 10 ∷ []
+abbrev pub called_by : (file kind word : List ℕ) → (names : List (List ℕ)) → Option ℕ → List ℕ
+called_by file kind word names None = line (file ++ (codes " has no " ++ (kind ++ codes "s")))
+called_by file kind word names (Some k) =
+    uncalled file kind word ++ slice_index_or names k [] ++ name_list (take k names) ++ name_list (drop (suc k) names) ++ 10 ∷ []
+
+abbrev pub names_line : (file kind : List ℕ) → (names : List (List ℕ)) → (word : List ℕ) → List ℕ
+names_line file kind names word = called_by file kind word names (nearest names word)
 
 abbrev pub works_line : (file : List ℕ) → ScenarioContents → (word : List ℕ) → List ℕ
-works_line file S word = works_by file word S (nearest (work_names S) word)
+works_line file S word = names_line file (codes "work") (work_names S) word
+
+-- the actors that an exploration names, and the first of them that isn't declared
+abbrev pub actor_forbidden : Never → List (List ℕ)
+actor_forbidden (never.After actor work) = actor.now ∷ []
+actor_forbidden other = []
+
+abbrev pub actors_preceding : List Precedence → List (List ℕ)
+actors_preceding pairs = flat_map (λ pair. pair.first.now ∷ pair.then.now ∷ []) pairs
+
+abbrev pub actors_asked : Exploration → List (List ℕ)
+actors_asked exploration = actor_forbidden exploration.never ++ actors_preceding exploration.before.items
+
+abbrev pub first_unknown : (known : List (List ℕ)) → (names : List (List ℕ)) → Option (List ℕ)
+first_unknown known [] = None
+first_unknown known (name ∷ names) = if is_known known name then first_unknown known names else Some name
+
+abbrev pub unknown_line : (file : List ℕ) → (known : List (List ℕ)) → Option (List ℕ) → List ℕ
+unknown_line file known None = []
+unknown_line file known (Some name) = names_line file (codes "actor") known name
+
+abbrev pub unexplored_lines : (file : List ℕ) → ScenarioContents → Exploration → List ℕ
+unexplored_lines file S exploration = unknown_line file (actor_names S) (first_unknown (actor_names S) (actors_asked exploration))
 
 -- the instructions of the run of the first actor, and the time at which it ends
 abbrev pub run_instrs : List ActorContents → List Instr
@@ -225,3 +255,9 @@ module _ (look : Look) (request : Request) where
   IsAdvice found errors.Read told = told ≡ trouble_lines (file_read request) found.trouble
   IsAdvice found errors.Write told = told ≡ trouble_lines (file_made request) found.trouble
   IsAdvice found fault told = IsByText fault (wants_text fault) (option_map (λ text. text.now) found.text) told
+
+-- These are the lines behind an exploration that couldn't be done though the text is good: of an actor that isn't declared, if it names one.
+abbrev pub IsOnUnexplored : Request → (text told : List ℕ) → Type 0
+IsOnUnexplored (Explore file exploration) text told =
+    ((S : ScenarioContents) × Spells text S × (told ≡ unexplored_lines file.now S exploration)) ⊎ ((fault : FaultAt) × IsFault text fault × (told ≡ []))
+IsOnUnexplored request text told = told ≡ []

@@ -2,13 +2,16 @@
 #![tactic(auto)]
 
 mod advising;
+mod calling;
 mod explain_option;
 mod line;
 mod on_scenario;
 mod past_end;
 mod plain;
 mod trouble;
+mod unexplored;
 
 pub use advising::{Found, advice, file_made, file_read, wants_text};
 pub use explain_option::{EXPLAIN, take_explain};
 pub use trouble::Trouble;
+pub use unexplored::on_unexplored;

@@ -1,21 +1,21 @@
 //! What can be done about a fault that shows in the scenario.
-ghost use Rattle.cmwq_advice.specs.Advice.{IsOnScenario, actors_line, asked_work, forbidden_work, name_list, several_line, uncalled, work_asked, works_asked, works_by, works_line};
+ghost use Rattle.cmwq_advice.specs.Advice.{IsOnScenario, actors_line, asked_work, forbidden_work, several_line, work_asked, works_asked, works_line};
 ghost use Rattle.cmwq_grammar.specs.Instructions.{work_names};
 ghost use Rattle.cmwq_types.specs.Faults.{IsValid};
 ghost use Rattle.cmwq_types.specs.declared.limits.TheConstants.{MAX_WORKS};
-ghost use Rattle.std.specs.Prelude.{◌≡◌, ◌++◌, ◌<◌, ◌≤◌, IfOk, IfSome, OnOk, length, map, string_bytes};
+ghost use Rattle.std.specs.Prelude.{◌≡◌, ◌≤◌, IfOk, length, map, string_bytes};
 
+use crate::calling::names_line;
 use crate::line::line_of;
 use crate::past_end::past_end;
 use cmwq_debug_lines::work_named;
 use cmwq_draw::undeclared;
 use cmwq_exploration::Never;
-use cmwq_fitting::nearest;
 use cmwq_question::Question;
 use cmwq_request::request::Request;
 use cmwq_streams::PlayError;
 use cmwq_tasks::Task;
-use cmwq_types::{NoMemory, Scenario, WorkDecl};
+use cmwq_types::{NoMemory, Scenario};
 use itoa::Buffer;
 use std::alloc::Global;
 
@@ -127,7 +127,7 @@ fn works_asked(alloc: Global, scenario: &Scenario, names: Option<&str>) -> Resul
 }
 
 /// The text's bytes.
-fn bytes_of(alloc: Global, text: &str) -> Result<Vec<u8>, NoMemory>
+pub(crate) fn bytes_of(alloc: Global, text: &str) -> Result<Vec<u8>, NoMemory>
     ensures { IfOk result (λ bytes. bytes.items ≡ text.now) }
 {
     Ok(String::from_str(alloc, text)?.into_bytes())
@@ -153,7 +153,7 @@ fn works_line(
     ensures { IfOk result (λ line. line.items ≡ works_line file.now scenario.now word.now) }
 {
     let names = work_names(alloc, scenario)?;
-    works_by(alloc, file, word, scenario, nearest(&names, word))
+    names_line(alloc, file, "work", &names, word)
 }
 
 /// The names of the works.
@@ -165,49 +165,4 @@ fn work_names(alloc: Global, scenario: &Scenario) -> Result<Vec<&[u8]>, NoMemory
         names.push(work.name.as_bytes())?;
     }
     Ok(names)
-}
-
-/// That no work of the file's scenario is called so, and its works, this one first.
-fn works_by(
-    alloc: Global,
-    file: &str,
-    word: &[u8],
-    scenario: &Scenario,
-    first: Option<usize>,
-) -> Result<Vec<u8>, NoMemory>
-    requires { IfSome first (λ w. w < length scenario.now.works) }
-    ensures { IfOk result (λ line. line.items ≡ works_by file.now word.now scenario.now first) }
-{
-    let Some(w) = first else {
-        return line_of(alloc, &[file, " has no works"]);
-    };
-    let mut line = uncalled(alloc, file, word)?;
-    line.extend_from_slice(scenario.work_name(w).as_bytes())?;
-    push_names(&mut line, scenario.works.split_at(w).0)?;
-    push_names(&mut line, scenario.works.split_at(w + 1).1)?;
-    line.push(b'\n')?;
-    Ok(line)
-}
-
-/// That no work of the file's scenario is called so, up to the works.
-fn uncalled(alloc: Global, file: &str, word: &[u8]) -> Result<Vec<u8>, NoMemory>
-    ensures { IfOk result (λ line. line.items ≡ uncalled file.now word.now) }
-{
-    let mut line = bytes_of(alloc, "  no work of ")?;
-    line.extend_from_slice(file.as_bytes())?;
-    line.extend_from_slice(b" is called ")?;
-    line.extend_from_slice(word)?;
-    line.extend_from_slice(b"; the nearest first: ")?;
-    Ok(line)
-}
-
-/// Appends the works' names, each behind a comma.
-fn push_names(line: &mut Vec<u8>, works: &[WorkDecl]) -> Result<(), NoMemory>
-    ensures { OnOk result (line.new.items ≡ line.old.items ++ name_list works.now) }
-{
-    for work in works {
-        line.extend_from_slice(b", ")?;
-        line.extend_from_slice(work.name.as_bytes())?;
-    }
-    Ok(())
 }

@@ -4,3 +4,4 @@ pub mod ExploredFiles
 pub mod Opening
 pub mod SweptFiles
 pub mod Tasks
+pub mod Undone

@@ -17,7 +17,7 @@ const FOUND: u8 = 5;
 const OPEN: u8 = 6;
 
 /// The exit status of a scenario with which what is asked can't be done.
-const UNDONE: u8 = 1;
+pub const UNDONE: u8 = 1;
 
 /// Looks through all orders of the actors of the scenario whose text is in the file, and writes what comes of that: an order as a scenario
 /// that shows it, or a line. Gives the exit status. What no other command tells of a scenario goes to `errors`.

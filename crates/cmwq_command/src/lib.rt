@@ -8,10 +8,13 @@ mod file_store;
 mod standard_input;
 mod sweeping;
 mod tasks_done;
+mod undone;
 
 pub use advising::{advise, remark};
 pub use carrying::{ProgramSetting, answer_request, carry_out};
 pub use cmwq_debug_session::Manner;
+pub use exploring::UNDONE;
 pub use file_store::{Disk, FileStore, Opened};
 pub use standard_input::reads_input;
 pub use tasks_done::do_task;
+pub use undone::advise_undone;

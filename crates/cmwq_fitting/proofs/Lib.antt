@@ -1,3 +1,4 @@
 mod EndLemmas
 mod FaultLemmas
+mod FrontLemmas
 mod KnownLemmas

@@ -7,3 +7,4 @@ pub mod NearMisses
 pub mod Nearness
 pub mod NumberLimits
 pub mod Offered
+pub mod Shortened

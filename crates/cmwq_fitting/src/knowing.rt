@@ -57,7 +57,7 @@ fn add_known<'t>(known: &mut Vec<&'t [u8]>, word: Option<&'t [u8]>) -> Result<()
 
 /// Whether the word is among these.
 #[tactic(auto, using(crate::proofs::KnownLemmas::any_of_map))]
-pub(crate) fn is_known(known: &[&[u8]], word: &[u8]) -> bool
+pub fn is_known(known: &[&[u8]], word: &[u8]) -> bool
     ensures { result ≡ is_known (map (λ word. word.now) known.now) word.now }
 {
     is_any(known, word)

@@ -11,10 +11,11 @@ mod near_misses;
 mod nearness;
 mod numbers;
 mod offer;
+mod shortening;
 
 pub use faults::{TextFault, text_fault};
 pub use gap::Gap;
-pub use knowing::{known_words, last_body};
+pub use knowing::{is_known, known_words, last_body};
 pub use laws::{
     limits_are_those_of_the_place, lines_end_where_texts_go_on, queues_are_declared_by_their_lines,
     words_behind_which_a_line_may_end_fit,
@@ -23,3 +24,4 @@ pub use meaning::{meant_among, meant_at, nearest_first};
 pub use nearness::nearest;
 pub use numbers::Limits;
 pub use offer::{Offer, offer_at};
+pub use shortening::front_of;

@@ -6,4 +6,5 @@ mod limits;
 mod meanings;
 mod page;
 
+pub use meanings::operand_names;
 pub use page::language_page;

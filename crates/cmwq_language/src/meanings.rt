@@ -59,7 +59,7 @@ impl QueueFlag {
 }
 
 /// What stands behind a word of this shape.
-pub(crate) fn operand_names(shape: Shape) -> &'static str
+pub fn operand_names(shape: Shape) -> &'static str
     ensures { result.now ≡ operand_names shape }
 {
     match shape {

@@ -1,4 +1,5 @@
--- What is noted of a good text: where a kernel does otherwise than this program. The lines are this project's own.
+-- What is noted of a good text: where a kernel does otherwise than this program, and which lines do less than they seem to. The lines are this project's
+-- own.
 use Rattle.std.specs.Prelude.{◌≡◌, ◌⊎◌, ◌==◌, ℕ, suc, Bool, false, not, ◌&&◌, ◌||◌, List, [], ◌∷◌, ◌++◌, Option, None, Some, codes, if◌then◌else◌, nat_le, length, position}
 use Rattle.std.specs.Fmt.{decimal}
 use Rattle.std.specs.List.{list_any}
@@ -13,6 +14,7 @@ use Rattle.cmwq_grammar.specs.Cutting.{lines_of, words_of}
 use Rattle.cmwq_grammar.specs.FaultLaw.{IsFault}
 use Rattle.cmwq_grammar.specs.Grammar.{Spells}
 use Rattle.cmwq_grammar.specs.Meaning.{FaultAt}
+use Rattle.cmwq_remarks.specs.Traps.{cpu_sentence, has_few_steps, is_cpu, steps_sentence, uncounted, wants_cpu}
 
 -- `FILE:LINE: note: NAME: SENTENCE`
 abbrev pub place_text : (file : List ℕ) → (number : ℕ) → List ℕ
@@ -91,10 +93,36 @@ line_note S file number (word ∷ name ∷ more) =
     else []
 line_note S file number words = []
 
+-- Lines that do less than they seem to.
+
+abbrev pub note_if : (file : List ℕ) → ℕ → (name : List ℕ) → Option (List ℕ) → List ℕ
+note_if file number name None = []
+note_if file number name (Some sentence) = note_line file number name sentence
+
+abbrev pub steps_note : ScenarioContents → (file : List ℕ) → ℕ → List ℕ
+steps_note S file number = if has_few_steps S then note_line file number (codes "steps") (steps_sentence S.steps) else []
+
+-- `max` stands in a CPU's place where a queue is declared
+abbrev pub cpu_note : ScenarioContents → (file : List ℕ) → ℕ → (word : List ℕ) → (operands : List (List ℕ)) → List ℕ
+cpu_note S file number word (name ∷ cpu ∷ more) =
+    if wants_cpu word more && (not (bytes_eq cpu (codes "max")) && not (is_cpu S cpu))
+    then note_line file number name (cpu_sentence S.cpus word cpu)
+    else []
+cpu_note S file number word operands = []
+
+abbrev pub trap_note : ScenarioContents → (file : List ℕ) → ℕ → List (List ℕ) → List ℕ
+trap_note S file number [] = []
+trap_note S file number (word ∷ operands) =
+    if bytes_eq word (codes "steps") then steps_note S file number
+    else note_if file number word (uncounted word operands) ++ cpu_note S file number word operands
+
+abbrev pub line_notes : ScenarioContents → (file : List ℕ) → ℕ → List (List ℕ) → List ℕ
+line_notes S file number words = line_note S file number words ++ trap_note S file number words
+
 -- and of these lines, the first of which has this number
 abbrev pub notes_from : ScenarioContents → (file : List ℕ) → ℕ → List (List ℕ) → List ℕ
 notes_from S file number [] = []
-notes_from S file number (line ∷ lines) = line_note S file number (words_of line) ++ notes_from S file (suc number) lines
+notes_from S file number (line ∷ lines) = line_notes S file number (words_of line) ++ notes_from S file (suc number) lines
 
 -- these are the notes on a text; none where it spells no scenario
 abbrev pub AreNotes : (file text told : List ℕ) → Type 0

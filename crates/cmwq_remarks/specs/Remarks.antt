@@ -1,4 +1,5 @@
--- What should be known of a run that ended well: how many instructions were refused, and that the actor stopped while works were pending.
+-- What should be known of a run that ended well: how many instructions were refused, and how many since the steps were spent; which line without a count
+-- ended too early; and that the actor stopped while works were pending or ran.
 -- The lines are this project's own.
 use Rattle.std.specs.Prelude.{◌≡◌, ◌⊎◌, ℕ, suc, ◌+◌, Bool, true, false, not, List, [], ◌∷◌, ◌++◌, ◌==◌, length, Option, None, Some, is_some, codes, if◌then◌else◌, nat_le}
 use Rattle.std.specs.Fmt.{decimal}
@@ -7,10 +8,14 @@ use Rattle.cmwq_types.specs.Contents.{ActorContents, ScenarioContents}
 use Rattle.cmwq_types.specs.First.{count_below}
 use Rattle.cmwq_types.specs.Scenario.{expand}
 use Rattle.cmwq_types.specs.declared.limits.TheConstants.{MAX_HISTORY}
+use Rattle.cmwq_types.specs.declared.instr.Instr.{Instr}
+use Rattle.cmwq_types.specs.declared.reply.Refusal.TheVariants.{Spent}
 use Rattle.cmwq_types.specs.declared.reply.Reply.{Reply}
+use Rattle.cmwq_types.specs.declared.reply.Reply.TheVariants as reply
 use Rattle.cmwq_types.specs.declared.scenario.Line.{Line}
 use Rattle.cmwq_table.specs.Events.{is_refusal}
-use Rattle.cmwq_table.specs.State.{State, pending_at}
+use Rattle.cmwq_table.specs.Counts.{pends_or_runs}
+use Rattle.cmwq_table.specs.State.{State, pending_at, start}
 use Rattle.cmwq_table.specs.Table.{replies, run}
 use Rattle.cmwq_reasons.specs.Laws.{is_move}
 use Rattle.cmwq_grammar.specs.FaultLaw.{IsFault}
@@ -21,6 +26,7 @@ use Rattle.cmwq_tasks.specs.declared.task.Task.TheVariants as task
 use Rattle.cmwq_tasks.specs.declared.task.RunKind.{RunKind}
 use Rattle.cmwq_tasks.specs.declared.task.RunKind.TheVariants as kind
 use Rattle.cmwq_remarks.specs.LineNumbers.{line_at, number_of_last}
+use Rattle.cmwq_remarks.specs.Traps.{early_words, first_early}
 
 -- Refusals.
 
@@ -54,7 +60,37 @@ abbrev pub refusals_told : ScenarioContents → ActorContents → (text : List �
 refusals_told S actor text =
     refused_text text actor.lines (refusal_count (replies S (expand actor))) (first_refusal 0 (replies S (expand actor)))
 
--- Works that are pending at the end of a run in which the actor never let the machine move.
+-- Refusals because the steps are spent.
+
+abbrev pub is_spent : Reply → Bool
+is_spent (reply.Refused Spent) = true
+is_spent other = false
+
+abbrev pub spent_count : List Reply → ℕ
+spent_count [] = 0
+spent_count (answer ∷ answers) = (if is_spent answer then 1 else 0) + spent_count answers
+
+abbrev pub spent_line : (count steps : ℕ) → List ℕ
+spent_line count steps =
+    if count == 0
+    then []
+    else counted count (codes " instruction was refused as Spent; steps is ") (codes " instructions were refused as Spent; steps is ")
+    ++ decimal steps ++ codes ", and a greater number lets the run continue\n"
+
+abbrev pub spent_told : ScenarioContents → ActorContents → List ℕ
+spent_told S actor = spent_line (spent_count (replies S (expand actor))) S.steps
+
+-- A line without a count, which ended before what it goes on for had come: the first one.
+
+abbrev pub early_text : (text : List ℕ) → (count : ℕ) → Option (ℕ × Instr) → List ℕ
+early_text text count None = []
+early_text text count (Some early) =
+    codes "line " ++ (decimal (number_of_last text count early.0) ++ (codes ": " ++ (early_words early.1 ++ codes "\n")))
+
+abbrev pub early_told : ScenarioContents → ActorContents → (text : List ℕ) → List ℕ
+early_told S actor text = early_text text (length actor.lines) (first_early S (start S) 0 actor.lines)
+
+-- Works that are pending at the end of a run, or run.
 
 abbrev pub lets_move : List Line → Bool
 lets_move lines = list_any (λ line. is_move line.instr) lines
@@ -73,8 +109,21 @@ pending_line count =
     (codes " work is pending; --settle goes on until the machine is quiet\n")
     (codes " works are pending; --settle goes on until the machine is quiet\n")
 
+-- where the actor let the machine move, those that run count too
+abbrev pub left_count : ScenarioContents → State → ℕ
+left_count S s = count_below (pends_or_runs s) (length S.works)
+
+abbrev pub left_line : ℕ → List ℕ
+left_line count =
+    if count == 0
+    then []
+    else counted count
+    (codes " work item is pending or running at the end; --settle continues until none is\n")
+    (codes " work items are pending or running at the end; --settle continues until none is\n")
+
 abbrev pub pending_told : ScenarioContents → ActorContents → List ℕ
-pending_told S actor = if lets_move actor.lines then [] else pending_line (pending_count S (run S (expand actor)))
+pending_told S actor =
+    if lets_move actor.lines then left_line (left_count S (run S (expand actor))) else pending_line (pending_count S (run S (expand actor)))
 
 -- What is told behind which task.
 
@@ -97,7 +146,8 @@ tells_pending other = false
 
 abbrev pub run_remarks : Task → (text : List ℕ) → ScenarioContents → ActorContents → List ℕ
 run_remarks task text S actor =
-    (if tells_refusals task then refusals_told S actor text else []) ++ (if tells_pending task then pending_told S actor else [])
+    (if tells_refusals task then refusals_told S actor text ++ spent_told S actor else [])
+    ++ (if tells_pending task then early_told S actor text ++ pending_told S actor else [])
 
 -- of a scenario that has one actor, with no more instructions than one run issues
 abbrev pub remarks_of : Task → (text : List ℕ) → ScenarioContents → List ActorContents → List ℕ

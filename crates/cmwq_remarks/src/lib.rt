@@ -7,6 +7,7 @@ mod noted;
 mod pending;
 mod refusals;
 mod remarked;
+mod traps;
 
 pub use noted::notes;
 pub use remarked::remarks;

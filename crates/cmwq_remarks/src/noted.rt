@@ -1,20 +1,26 @@
 //! What is noted of a good text.
 ghost use Rattle.cmwq_grammar.specs.Cutting.{lines_of, words_of};
-ghost use Rattle.cmwq_remarks.specs.Notes.{AreNotes, bound_works, begins_with_max, intensive_note, is_bound, is_bound_work, is_intensive_beside, line_note, note_line, notes_from, place_text, queue_named, queues_itself, queues_work, sync_note, work_named, works_of};
-ghost use Rattle.cmwq_scan.specs.Words.{words_left};
+ghost use Rattle.cmwq_remarks.specs.Notes.{AreNotes, bound_works, begins_with_max, cpu_note, intensive_note, is_bound, is_bound_work, is_intensive_beside, line_note, line_notes, note_if, note_line, notes_from, place_text, queue_named, queues_itself, queues_work, steps_note, sync_note, trap_note, work_named, works_of};
+ghost use Rattle.cmwq_remarks.specs.Traps.{is_cpu, wants_cpu};
+ghost use Rattle.cmwq_scan.specs.Words.{words_in, words_left};
 ghost use Rattle.cmwq_types.specs.declared.limits.TheConstants.{MAX_QUEUES};
 ghost use Rattle.std.specs.List.{list_any};
-ghost use Rattle.std.specs.Prelude.{◌≡◌, ◌<◌, ◌≤◌, ◌++◌, IfOk, IfSome, OnOk, length};
+ghost use Rattle.std.specs.Prelude.{◌≡◌, ◌<◌, ◌≤◌, ◌++◌, ◌&&◌, IfOk, IfSome, OnOk, codes, length, not, option_map};
+ghost use Rattle.std.specs.Str.{bytes_eq};
 
+use crate::traps::{
+    cpu_sentence, has_few_steps, is_cpu, steps_sentence, uncounted, wants_cpu,
+};
 use cmwq_asm::{AsmError, assemble};
-use cmwq_scan::{is_word, next_line, next_word, worded_part};
+use cmwq_scan::{Token, Tokens, is_word, next_line, next_word, read_tokens, worded_part};
 use cmwq_types::{Flags, NoMemory, Op, Scenario};
 use itoa::Buffer;
 use std::alloc::Global;
 
 /// What is noted of the file's text, a line each: where it cancels a work and waits for it though its body queues it again, and where a
-/// queue is CPU-intensive beside other works of CPUs. A kernel does otherwise there (`docs/KERNEL.md`). Of a text that spells no scenario
-/// nothing is noted. It fails only for want of memory.
+/// queue is CPU-intensive beside other works of CPUs. A kernel does otherwise there (`docs/KERNEL.md`). And which lines do less than they seem to: `quiet`,
+/// `until` and `wait` without a count, a CPU that the machine hasn't, and too few `steps`. Of a text that spells no scenario nothing is noted. It fails only
+/// for want of memory.
 pub fn notes(alloc: Global, file: &str, text: &[u8]) -> Result<Vec<u8>, NoMemory>
     ensures { IfOk result (λ told. AreNotes file.now text.now told.items) }
 {
@@ -36,6 +42,7 @@ fn notes_on(
     ensures { IfOk result (λ told. told.items ≡ notes_from scenario.now file.now 1 (lines_of text.now)) }
 {
     let mut told = Vec::new(alloc);
+    let mut words = Tokens::new(alloc);
     let mut number = 1;
     let mut rest = text;
     while let Some((line, behind)) = next_line(rest) {
@@ -44,7 +51,8 @@ fn notes_on(
             file,
             number,
         };
-        place.push_note(&mut told, line)?;
+        read_tokens(&mut words, line)?;
+        place.push_notes(alloc, &mut told, line, &words)?;
         number += 1;
         rest = behind;
     }
@@ -60,7 +68,96 @@ struct Place<'a> {
 }
 
 impl Place<'_> {
-    /// Appends what is noted of the line.
+    /// Appends what is noted of the line, which has these words.
+    fn push_notes(
+        &self,
+        alloc: Global,
+        told: &mut Vec<u8>,
+        line: &[u8],
+        words: &[Token<'_>],
+    ) -> Result<(), NoMemory>
+        requires queues { length self.now.scenario.now.queues ≤ MAX_QUEUES }
+        requires words { words_in words.now ≡ words_of line.now }
+        ensures { OnOk result (told.new.items ≡ told.old.items ++ line_notes self.now.scenario.now self.now.file.now self.now.number (words_of line.now)) }
+    {
+        self.push_note(told, line)?;
+        self.push_trap_note(alloc, told, words)
+    }
+
+    /// Appends what is noted of a line of these words that does less than it seems to.
+    fn push_trap_note(
+        &self,
+        alloc: Global,
+        told: &mut Vec<u8>,
+        words: &[Token<'_>],
+    ) -> Result<(), NoMemory>
+        ensures { OnOk result (told.new.items ≡ told.old.items ++ trap_note self.now.scenario.now self.now.file.now self.now.number (words_in words.now)) }
+    {
+        let [word, operands @ ..] = words else {
+            return Ok(());
+        };
+        if is_word(word.bytes(), b"steps") {
+            return self.push_steps_note(alloc, told);
+        }
+        let said = uncounted(alloc, word.bytes(), operands)?;
+        self.push_note_if(told, word.bytes(), said)?;
+        self.push_cpu_note(alloc, told, word.bytes(), operands)
+    }
+
+    /// Appends the note that this is said of the name, if something is.
+    fn push_note_if(
+        &self,
+        told: &mut Vec<u8>,
+        name: &[u8],
+        said: Option<Vec<u8>>,
+    ) -> Result<(), NoMemory>
+        ensures { OnOk result (told.new.items ≡ told.old.items ++ note_if self.now.file.now self.now.number name.now (option_map (λ said. said.items) said)) }
+    {
+        match said {
+            Some(sentence) => self.push_line(told, name, &sentence),
+            None => Ok(()),
+        }
+    }
+
+    /// Appends the note that the steps may be too few, if they may.
+    fn push_steps_note(&self, alloc: Global, told: &mut Vec<u8>) -> Result<(), NoMemory>
+        ensures { OnOk result (told.new.items ≡ told.old.items ++ steps_note self.now.scenario.now self.now.file.now self.now.number) }
+    {
+        if !has_few_steps(self.scenario) {
+            return Ok(());
+        }
+        let sentence = steps_sentence(alloc, self.scenario.steps)?;
+        self.push_line(told, b"steps", &sentence)
+    }
+
+    /// Appends the note on a line of this word whose CPU isn't there.
+    fn push_cpu_note(
+        &self,
+        alloc: Global,
+        told: &mut Vec<u8>,
+        word: &[u8],
+        operands: &[Token<'_>],
+    ) -> Result<(), NoMemory>
+        ensures { OnOk result (told.new.items ≡ told.old.items ++ cpu_note self.now.scenario.now self.now.file.now self.now.number word.now (words_in operands.now)) }
+    {
+        let [name, cpu, more @ ..] = operands else {
+            return Ok(());
+        };
+        if !self.lacks_cpu(word, cpu.bytes(), more) {
+            return Ok(());
+        }
+        let sentence = cpu_sentence(alloc, self.scenario.cpus, word, cpu.bytes())?;
+        self.push_line(told, name.bytes(), &sentence)
+    }
+
+    /// Returns whether this stands in a CPU's place in a line of this word, and is none that the machine has.
+    fn lacks_cpu(&self, word: &[u8], cpu: &[u8], more: &[Token<'_>]) -> bool
+        ensures { result ≡ (wants_cpu word.now (words_in more.now) && (not (bytes_eq cpu.now (codes "max")) && not (is_cpu self.now.scenario.now cpu.now))) }
+    {
+        wants_cpu(word, more) && !is_word(cpu, b"max") && !is_cpu(self.scenario, cpu)
+    }
+
+    /// Appends what is noted of a line where a kernel does otherwise.
     fn push_note(&self, told: &mut Vec<u8>, line: &[u8]) -> Result<(), NoMemory>
         requires { length self.now.scenario.now.queues ≤ MAX_QUEUES }
         ensures { OnOk result (told.new.items ≡ told.old.items ++ line_note self.now.scenario.now self.now.file.now self.now.number (words_of line.now)) }
@@ -85,7 +182,7 @@ impl Place<'_> {
         ensures { OnOk result (told.new.items ≡ told.old.items ++ sync_note self.now.scenario.now self.now.file.now self.now.number name.now (work_named self.now.scenario.now name.now)) }
     {
         match work_named(self.scenario, name) {
-            Some(w) if queues_itself(self.scenario, w) => self.push_line(told, name, SYNC),
+            Some(w) if queues_itself(self.scenario, w) => self.push_line(told, name, SYNC.as_bytes()),
             _ => Ok(()),
         }
     }
@@ -97,20 +194,20 @@ impl Place<'_> {
     {
         match queue_named(self.scenario, name) {
             Some(queue) if is_intensive_beside(self.scenario, queue as u8) => {
-                self.push_line(told, name, INTENSIVE)
+                self.push_line(told, name, INTENSIVE.as_bytes())
             }
             _ => Ok(()),
         }
     }
 
     /// Appends a note's line.
-    fn push_line(&self, told: &mut Vec<u8>, name: &[u8], sentence: &str) -> Result<(), NoMemory>
+    fn push_line(&self, told: &mut Vec<u8>, name: &[u8], sentence: &[u8]) -> Result<(), NoMemory>
         ensures { OnOk result (told.new.items ≡ told.old.items ++ note_line self.now.file.now self.now.number name.now sentence.now) }
     {
         self.push_place(told)?;
         told.extend_from_slice(name)?;
         told.extend_from_slice(b": ")?;
-        told.extend_from_slice(sentence.as_bytes())?;
+        told.extend_from_slice(sentence)?;
         told.extend_from_slice(b"\n")?;
         Ok(())
     }

@@ -1,6 +1,6 @@
 -- Where words stand in a line, where lines begin, and what an answer of the assembler says of a fault.
 use Rattle.std.proofs.Common.{◌≡◌, ◌≢◌, ℕ, zero, suc, ◌+◌, ◌-◌, ◌<◌, ◌≤◌, ◌⊎◌, inl, inr, Bool, true, false, cond, eqb, List, [], ◌∷◌, ◌++◌, length, get_or, drop, take, arith, length-append, ap, sym, ◌∙◌, refl, subst, Some, Result, Ok, Err}
-use Rattle.std.proofs.lemmas.List.{drop_all, drop_more, take_all}
+use Rattle.std.proofs.lemmas.List.{drop_all, drop_more}
 use Rattle.std.proofs.lemmas.Option.{slice_get-get_or}
 use Rattle.std.specs.List.{list_any, slice_get}
 use Rattle.std.specs.Str.{bytes_eq}
@@ -29,8 +29,8 @@ within part word stands =
     let column : word.column ≡ length stands.front + 1 = stands.column in
     (omega arith, omega arith)
 
-pub short_front : (word : List ℕ) (most : ℕ) → length word ≤ most → take most word ≡ word
-short_front word most short = take_all most word short
+pub none_behind : (word : List ℕ) (count : ℕ) → length word ≤ count → drop count word ≡ []
+none_behind word count short = drop_all count word short
 
 abbrev Tells : List ℕ → Result ScenarioContents AsmError → Type 0
 Tells text r = (fault : FaultAt) → IsFault text fault → MatchResult r (λ s. ⊥) (λ e. (e ≡ asm.At fault.line fault.why) ⊎ (e ≡ asm.NoMemory))

@@ -24,9 +24,10 @@ pub record AreWordsOf (line : List ℕ) (words : List Word) : Type 0 where
   pub stand : All (StandsIn (worded_part line)) words
   pub in_order : AllPairs IsBefore words
 
--- the text cut behind a word of the line that begins at this place
+-- The text cut behind a word of the line that begins at this place, and behind the byte that follows the word: so a carriage return at the word's end
+-- is part of it, where it isn't at the line's end.
 abbrev pub cut_behind : List ℕ → ℕ → Word → List ℕ
-cut_behind text start word = take (start + (word.column - 1) + length word.bytes) text
+cut_behind text start word = take (start + (word.column - 1) + length word.bytes + 1) text
 
 -- the column behind the last word
 abbrev pub behind_word : Option Word → ℕ

@@ -12,6 +12,7 @@ use Rattle.cmwq_grammar.specs.declared.why.Why.TheVariants as whys
 use Rattle.cmwq_fitting.specs.Meant.{meant_among, meant_at, nearest_first}
 use Rattle.cmwq_fitting.specs.declared.numbers.Limits.{Limits}
 use Rattle.cmwq_fitting.specs.declared.offer.Offer.{Offer}
+use Rattle.cmwq_verdict.specs.Cures.{cure, cure_or}
 use Rattle.cmwq_verdict.specs.OfferLines.{offer_line}
 use Rattle.cmwq_verdict.specs.WordPlaces.{column_of_place, line_before, text_before, word_of_place}
 use Rattle.cmwq_verdict.specs.declared.places.FaultPlace.{FaultPlace}
@@ -92,8 +93,9 @@ module _ (text : List ℕ) (fault : FaultAt) (place : FaultPlace) (first_words :
   meant_if true offer = meant_line (meant_of_place offer)
   meant_if false offer = []
 
--- nothing where the text as a whole is at fault
+-- what may stand there, and then what is said of the fault beside its reason, or else what is meant; nothing where the text as a whole is at fault
 abbrev pub hint_lines : (text : List ℕ) → FaultAt → FaultPlace → Option Next → Option Offer → List ℕ
 hint_lines text fault place None offer = []
 hint_lines text fault place (Some next) offer =
-    place_line place (words_of_next next) offer ++ meant_if text fault place (words_of_next next) (is_misspelt fault.why) offer
+    place_line place (words_of_next next) offer
+    ++ cure_or (cure text fault place (Some next)) (meant_if text fault place (words_of_next next) (is_misspelt fault.why) offer)

@@ -1,4 +1,6 @@
+pub mod Cures
 pub mod FaultPlaces
+pub mod Forms
 pub mod Hints
 pub mod Looks
 pub mod Mending

@@ -10,10 +10,8 @@ use Rattle.cmwq_grammar.specs.declared.why.Why.TheVariants as whys
 use Rattle.cmwq_fitting.specs.KnownWords.{last_body}
 use Rattle.cmwq_fitting.specs.declared.numbers.Limits.{Limits}
 use Rattle.cmwq_fitting.specs.declared.offer.Offer.{Offer}
+pub use Rattle.cmwq_verdict.specs.Cures.{sentence}
 use Rattle.cmwq_verdict.specs.Hints.{limits_text}
-
-abbrev pub sentence : List ℕ → List ℕ
-sentence words = codes "  " ++ (words ++ 10 ∷ [])
 
 -- the limits of the number at fault
 abbrev pub range_sentence : Option Limits → List ℕ

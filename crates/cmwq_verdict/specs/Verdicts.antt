@@ -1,5 +1,5 @@
 -- What is said of a text.
-use Rattle.std.specs.Prelude.{◌≡◌, ℕ, List, [], ◌∷◌, ◌++◌, codes, map, take, if◌then◌else◌, Option, None, Some}
+use Rattle.std.specs.Prelude.{◌≡◌, ℕ, List, [], ◌∷◌, ◌++◌, codes, map, take, if◌then◌else◌, Option, None, Some, is_some}
 use Rattle.std.specs.Fmt.{decimal}
 use Rattle.cmwq_types.specs.Contents.{ScenarioContents}
 use Rattle.cmwq_types.specs.Faults.{within}
@@ -10,6 +10,7 @@ use Rattle.cmwq_grammar.specs.declared.next.Next.{Next}
 use Rattle.cmwq_fitting.specs.declared.offer.Offer.{Offer}
 use Rattle.cmwq_verdict.specs.Looks.{pointer, why_words}
 use Rattle.cmwq_verdict.specs.Mending.{limits_offered, open_body_after, why_sentence}
+use Rattle.cmwq_verdict.specs.Cures.{cure}
 use Rattle.cmwq_verdict.specs.Hints.{hint_lines}
 use Rattle.cmwq_verdict.specs.WordPlaces.{IsNext, IsOffer, column_of_place, lines_before, word_of_place}
 use Rattle.cmwq_verdict.specs.FaultPlaces.{IsPlace}
@@ -52,10 +53,12 @@ pub record IsFoundOut (text : List ℕ) (fault : FaultAt) (place : FaultPlace) (
   pub next_is : IsNext text fault next
   pub offer_is : IsOffer text fault place next offer
 
--- what mends a fault
+-- what mends a fault, by its reason, where nothing was said of it beside that
 abbrev pub mending_line : (text : List ℕ) → FaultAt → FaultPlace → Option Next → Option Offer → List ℕ
 mending_line text fault place next offer =
-    why_sentence (word_of_place place) (limits_offered offer) (open_body_after (lines_before text fault) next) fault.why
+    if is_some (cure text fault place next)
+    then []
+    else why_sentence (word_of_place place) (limits_offered offer) (open_body_after (lines_before text fault) next) fault.why
 
 module _ (look : Look) (file text : List ℕ) where
   -- a fault, and what is said of its place

@@ -14,10 +14,9 @@ ghost use Rattle.std.specs.Prelude.{◌≡◌, ◌≢◌, IfOk, map};
 ghost use Rattle.std.specs.Str.{bytes_eq};
 
 use crate::first_words::{FirstWord, words_of};
-use crate::looks::front_of;
 use crate::offers::next_at;
 use crate::places::{FaultPlace, line_start, place_of_fault, rest_from};
-use cmwq_fitting::{Gap, Offer, TextFault, known_words, offer_at};
+use cmwq_fitting::{Gap, Offer, TextFault, front_of, known_words, offer_at};
 use cmwq_grammar::Next;
 use cmwq_scan::{is_word, next_word, worded_part};
 use cmwq_types::NoMemory;

@@ -3,16 +3,18 @@ ghost use Rattle.cmwq_fitting.specs.Meant.{meant_among, meant_at};
 ghost use Rattle.cmwq_grammar.specs.Cutting.{words_of};
 ghost use Rattle.cmwq_grammar.specs.Meaning.{fault_at};
 ghost use Rattle.cmwq_grammar.specs.Offers.{words_of_next};
+ghost use Rattle.cmwq_verdict.specs.Cures.{cure, cure_or};
 ghost use Rattle.cmwq_verdict.specs.Hints.{line_end, end_text, hint_lines, is_misspelt, limit_words, limits_text, things_list, meant_first, meant_if, meant_line, meant_of_place, more_text, names_offered, place_line, stand_line, things_offered, words_told};
 ghost use Rattle.cmwq_verdict.specs.OfferLines.{spelled};
 ghost use Rattle.cmwq_verdict.specs.WordPlaces.{IsNext};
 ghost use Rattle.std.specs.List.{flat_map};
 ghost use Rattle.std.specs.Prelude.{◌≡◌, ◌++◌, ◌≢◌, IfOk, OnOk, codes, drop, map, option_map, take};
 
+use crate::cures::cure_of;
 use crate::finding::{Finding, column_of_place, line_before, text_before, word_of_place};
 use crate::first_words::{FirstWord, words_of};
 use crate::offers::push_offered;
-use crate::writing::{push_between, push_bytes};
+use crate::writing::{push_between, push_bytes, push_sentence};
 use cmwq_fitting::{Gap, Limits, Offer, meant_among, meant_at, nearest_first};
 use cmwq_grammar::{Next, Why};
 use cmwq_scan::{next_word, worded_part};
@@ -37,7 +39,8 @@ pub(crate) fn push_hints(
     push_hints_among(alloc, told, text, &words, found)
 }
 
-/// Writes what may stand at the place, and what is meant there, these being the words that a line may begin with.
+/// Writes what may stand at the place, and then what is said of the fault beside its reason, or else what is meant there. These are the words that a
+/// line may begin with.
 fn push_hints_among(
     alloc: Global,
     told: &mut Vec<u8>,
@@ -45,12 +48,33 @@ fn push_hints_among(
     words: &[FirstWord],
     found: &Finding<'_>,
 ) -> Result<(), NoMemory>
-    requires { found.now.fault.line ≢ 0 }
+    requires some { found.now.fault.line ≢ 0 }
+    requires next { IsNext text.now (fault_at found.now.fault.line found.now.fault.why) found.now.next }
     ensures { OnOk result (told.new.items ≡ told.old.items ++ (place_line found.now.place (map spelled words.now) found.now.offer
-        ++ meant_if text.now (fault_at found.now.fault.line found.now.fault.why) found.now.place (map spelled words.now)
-        (is_misspelt found.now.fault.why) found.now.offer)) }
+        ++ cure_or (cure text.now (fault_at found.now.fault.line found.now.fault.why) found.now.place found.now.next)
+        (meant_if text.now (fault_at found.now.fault.line found.now.fault.why) found.now.place (map spelled words.now)
+        (is_misspelt found.now.fault.why) found.now.offer))) }
 {
     push_place_line(alloc, told, words, found)?;
+    match cure_of(alloc, text, found)? {
+        Some(cure) => push_sentence(told, &cure),
+        None => push_meant_if(alloc, told, text, words, found),
+    }
+}
+
+/// Writes what is meant at the place, where a word isn't the right one. These are the words that a line may begin with.
+fn push_meant_if(
+    alloc: Global,
+    told: &mut Vec<u8>,
+    text: &[u8],
+    words: &[FirstWord],
+    found: &Finding<'_>,
+) -> Result<(), NoMemory>
+    requires { found.now.fault.line ≢ 0 }
+    ensures { OnOk result (told.new.items ≡ told.old.items
+        ++ meant_if text.now (fault_at found.now.fault.line found.now.fault.why) found.now.place (map spelled words.now)
+        (is_misspelt found.now.fault.why) found.now.offer) }
+{
     if !is_misspelt(found.fault.why) {
         return Ok(());
     }

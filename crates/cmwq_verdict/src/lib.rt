@@ -1,9 +1,11 @@
 //! The verdict of a scenario's text, for editors and for people: that it is good, or where its first fault is and why it is one.
 #![tactic(auto)]
 
+mod cures;
 pub mod examples;
 mod finding;
 mod first_words;
+mod forms;
 mod hints;
 mod looks;
 mod mending;

@@ -8,7 +8,7 @@ use crate::places::{line_start, rest_from};
 use crate::reason_names::why_name;
 use crate::shown::{Shown, push_shown_as};
 use crate::writing::{push_between, push_bytes};
-use cmwq_fitting::TextFault;
+use cmwq_fitting::{TextFault, front_of};
 use cmwq_grammar::Why;
 use cmwq_scan::next_line;
 use cmwq_types::NoMemory;
@@ -74,16 +74,4 @@ fn push_pointed(told: &mut Vec<u8>, line: &[u8], column: usize) -> Result<(), No
     let front = front_of(line, column.saturating_sub(1));
     push_shown_as(told, Shown::Blank, front)?;
     push_bytes(told, b"^\n")
-}
-
-/// The bytes, up to so many.
-#[tactic(auto, using(crate::proofs::PlaceLemmas::short_front))]
-pub(crate) fn front_of(bytes: &[u8], most: usize) -> &[u8]
-    ensures { result.now ≡ take most bytes.now }
-{
-    if bytes.len() > most {
-        bytes.split_at(most).0
-    } else {
-        bytes
-    }
 }

@@ -1,21 +1,22 @@
 //! What mends a text's fault.
 ghost use Rattle.cmwq_fitting.specs.KnownWords.{last_body};
 ghost use Rattle.cmwq_grammar.specs.Meaning.{fault_at};
-ghost use Rattle.cmwq_verdict.specs.Mending.{body_sentence, fault_sentence, flags_sentence, limits_offered, open_body_after, order_sentence, range_sentence, sentence, why_sentence};
+ghost use Rattle.cmwq_verdict.specs.Mending.{body_sentence, fault_sentence, flags_sentence, limits_offered, open_body_after, order_sentence, range_sentence, why_sentence};
 ghost use Rattle.cmwq_verdict.specs.Verdicts.{mending_line};
-ghost use Rattle.cmwq_verdict.specs.WordPlaces.{IsNext, lines_before};
+ghost use Rattle.cmwq_verdict.specs.WordPlaces.{IsNext, lines_before, word_of_place};
 ghost use Rattle.std.specs.Prelude.{◌≡◌, ◌++◌, IfOk, OnOk, option_map};
 
+use crate::cures::cure_of;
 use crate::finding::{Finding, lines_before, word_of_place};
 use crate::hints::limits_text;
-use crate::writing::push_between;
+use crate::writing::{push_between, push_sentence};
 use cmwq_fitting::{Limits, Offer, last_body};
 use cmwq_grammar::{Next, Why};
 use cmwq_scan::is_word;
 use cmwq_types::{Fault, NoMemory};
 use std::alloc::Global;
 
-/// Writes what mends the text's fault.
+/// Writes what mends the text's fault, by its reason, where nothing is said of it beside that.
 pub(crate) fn push_mending(
     alloc: Global,
     told: &mut Vec<u8>,
@@ -25,6 +26,24 @@ pub(crate) fn push_mending(
     requires { IsNext text.now (fault_at found.now.fault.line found.now.fault.why) found.now.next }
     ensures { OnOk result (told.new.items ≡ told.old.items
         ++ mending_line text.now (fault_at found.now.fault.line found.now.fault.why) found.now.place found.now.next found.now.offer) }
+{
+    if cure_of(alloc, text, found)?.is_some() {
+        return Ok(());
+    }
+    push_reason_found(alloc, told, text, found)
+}
+
+/// Writes what mends the text's fault, by its reason.
+fn push_reason_found(
+    alloc: Global,
+    told: &mut Vec<u8>,
+    text: &[u8],
+    found: &Finding<'_>,
+) -> Result<(), NoMemory>
+    requires { IsNext text.now (fault_at found.now.fault.line found.now.fault.why) found.now.next }
+    ensures { OnOk result (told.new.items ≡ told.old.items
+        ++ why_sentence (word_of_place found.now.place) (limits_offered found.now.offer)
+        (open_body_after (lines_before text.now (fault_at found.now.fault.line found.now.fault.why)) found.now.next) found.now.fault.why) }
 {
     let body = body_left_open(alloc, text, found)?;
     let word = word_of_place(found.place);
@@ -196,11 +215,4 @@ fn push_body_end(told: &mut Vec<u8>, body: Option<&[u8]>) -> Result<(), NoMemory
         work,
         b" lacks the finish that ends it\n",
     )
-}
-
-/// Writes the line of these words.
-fn push_sentence(told: &mut Vec<u8>, words: &[u8]) -> Result<(), NoMemory>
-    ensures { OnOk result (told.new.items ≡ told.old.items ++ sentence words.now) }
-{
-    push_between(told, b"  ", words, b"\n")
 }

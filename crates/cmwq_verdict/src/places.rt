@@ -8,7 +8,7 @@ ghost use Rattle.std.specs.List.{All};
 ghost use Rattle.std.specs.Prelude.{◌≡◌, ◌≢◌, ◌+◌, ◌-◌, ◌≤◌, ◌<◌, ◌↔◌, ◌∷◌, ◌==◌, if◌then◌else◌, ℕ, List, IfOk, IsTrue, MatchOption, drop, length};
 
 use cmwq_asm::{AsmError, assemble};
-use cmwq_fitting::TextFault;
+use cmwq_fitting::{TextFault, front_of};
 use cmwq_grammar::Why;
 use cmwq_scan::{Token, Tokens, next_line, read_tokens, worded_part};
 use cmwq_types::NoMemory;
@@ -147,14 +147,15 @@ fn behind_words(part: &[u8], words: &[Token]) -> usize
     }
 }
 
-/// The text cut behind a word of this part of a line that begins at this place.
+/// The text cut behind a word of this part of a line that begins at this place, and behind the byte that follows the word.
 #[tactic(auto, using(crate::proofs::PlaceLemmas::within))]
 fn cut_behind<'t>(text: &'t [u8], start: usize, part: &[u8], word: &Token) -> &'t [u8]
     requires stands { StandsIn part.now word.now }
     requires room { start + length part.now ≤ length text.now }
     ensures { result.now ≡ cut_behind text.now start word.now }
 {
-    &text[..start + (word.column() - 1) + word.bytes().len()]
+    let end = start + (word.column() - 1) + word.bytes().len();
+    front_of(text, end + 1)
 }
 
 /// Whether this is the text's first fault.

@@ -10,13 +10,13 @@ ghost use Rattle.std.specs.Prelude.{◌≡◌, ◌++◌, ◌∷◌, [], IfOk, On
 
 use crate::finding::{Finding, column_of_place, found_of};
 use crate::hints::push_hints;
-use crate::looks::{Look, front_of, push_pointer, push_why};
+use crate::looks::{Look, push_pointer, push_why};
 use crate::mending::push_mending;
 use crate::places::FaultPlace;
 use crate::shown::{Shown, push_shown_as};
 use crate::writing::push_bytes;
 use cmwq_asm::{AsmError, assemble};
-use cmwq_fitting::TextFault;
+use cmwq_fitting::{TextFault, front_of};
 use cmwq_grammar::Why;
 use cmwq_types::NoMemory;
 use std::alloc::Global;

@@ -1,4 +1,5 @@
 //! Bytes that are written one behind another.
+ghost use Rattle.cmwq_verdict.specs.Cures.{sentence};
 ghost use Rattle.std.specs.Prelude.{◌≡◌, ◌++◌, OnOk};
 
 use cmwq_types::NoMemory;
@@ -24,4 +25,11 @@ pub(crate) fn push_between(
     told.extend_from_slice(bytes)?;
     told.extend_from_slice(behind)?;
     Ok(())
+}
+
+/// Writes the line of these words, behind two blanks.
+pub(crate) fn push_sentence(told: &mut Vec<u8>, words: &[u8]) -> Result<(), NoMemory>
+    ensures { OnOk result (told.new.items ≡ told.old.items ++ sentence words.now) }
+{
+    push_between(told, b"  ", words, b"\n")
 }

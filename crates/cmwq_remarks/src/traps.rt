@@ -1,0 +1,257 @@
+//! Lines that do less than they seem to.
+ghost use Rattle.cmwq_remarks.specs.Traps.{count_sentence, cpu_form, cpu_sentence, early_words, first_early, goes_on_for, has_few_steps, is_cpu, is_early, left_by, left_by_actor, left_by_actors, line_cost, quiet_sentence, steps_sentence, uncounted, until_sentence, wait_sentence, wants_cpu};
+ghost use Rattle.cmwq_scan.specs.Words.{words_in};
+ghost use Rattle.std.specs.Fmt.{decimal};
+ghost use Rattle.std.specs.Prelude.{◌≡◌, ◌++◌, IfOk, Some, option_map};
+ghost use Rattle.std.specs.Str.{bytes_eq};
+
+use cmwq_reads::{is_met, is_question};
+use cmwq_runs::issue_all;
+use cmwq_scan::{Token, is_word};
+use cmwq_table::{Machine, Reads};
+use cmwq_types::{Actor, Instr, Line, NoMemory, Scenario};
+use itoa::Buffer;
+use std::alloc::Global;
+
+/// Returns what is said of a line of these words that has no count. It fails only for want of memory.
+pub(crate) fn uncounted(
+    alloc: Global,
+    word: &[u8],
+    operands: &[Token<'_>],
+) -> Result<Option<Vec<u8>>, NoMemory>
+    ensures { IfOk result (λ said. option_map (λ said. said.items) said ≡ uncounted word.now (words_in operands.now)) }
+{
+    match operands {
+        [] if is_word(word, b"quiet") => Ok(Some(quiet_sentence(alloc)?)),
+        [operand] if is_word(word, b"until") => Ok(Some(until_sentence(alloc, operand.bytes())?)),
+        [operand] if is_word(word, b"wait") => Ok(Some(wait_sentence(alloc, operand.bytes())?)),
+        _ => Ok(None),
+    }
+}
+
+/// Returns what is said of a `quiet` without a count.
+fn quiet_sentence(alloc: Global) -> Result<Vec<u8>, NoMemory>
+    ensures { IfOk result (λ said. said.items ≡ quiet_sentence) }
+{
+    count_sentence(alloc, b"quiet", b"no work item is pending or running")
+}
+
+/// Returns what is said of an `until` without a count.
+fn until_sentence(alloc: Global, time: &[u8]) -> Result<Vec<u8>, NoMemory>
+    ensures { IfOk result (λ said. said.items ≡ until_sentence time.now) }
+{
+    let form = joined(alloc, b"until ", time, b"")?;
+    let goal = joined(alloc, b"tick ", time, b"")?;
+    count_sentence(alloc, &form, &goal)
+}
+
+/// Returns what is said of a `wait` without a count.
+fn wait_sentence(alloc: Global, flush: &[u8]) -> Result<Vec<u8>, NoMemory>
+    ensures { IfOk result (λ said. said.items ≡ wait_sentence flush.now) }
+{
+    let form = joined(alloc, b"wait ", flush, b"")?;
+    let goal = joined(alloc, b"flush ", flush, b" is done")?;
+    count_sentence(alloc, &form, &goal)
+}
+
+/// Returns what is said of a line without a count: how it is written with one, and what it continues for.
+fn count_sentence(alloc: Global, form: &[u8], goal: &[u8]) -> Result<Vec<u8>, NoMemory>
+    ensures { IfOk result (λ said. said.items ≡ count_sentence form.now goal.now) }
+{
+    let mut said = joined(
+        alloc,
+        b"without a count it makes at most one move; write ",
+        form,
+        b" * 100 to continue until ",
+    )?;
+    said.extend_from_slice(goal)?;
+    Ok(said)
+}
+
+/// Returns these bytes one behind the other.
+fn joined(alloc: Global, front: &[u8], middle: &[u8], end: &[u8]) -> Result<Vec<u8>, NoMemory>
+    ensures { IfOk result (λ whole. whole.items ≡ front.now ++ (middle.now ++ end.now)) }
+{
+    let mut whole = Vec::from_slice(alloc, front)?;
+    whole.extend_from_slice(middle)?;
+    whole.extend_from_slice(end)?;
+    Ok(whole)
+}
+
+/// Returns whether the word is the number of a CPU.
+pub(crate) fn is_cpu(scenario: &Scenario, word: &[u8]) -> bool
+    ensures { result ≡ is_cpu scenario.now word.now }
+{
+    let mut count = 0;
+    for cpu in 0..scenario.cpus {
+        if is_number(word, cpu) {
+            count += 1;
+        }
+    }
+    count > 0
+}
+
+/// Returns whether the word is this number.
+fn is_number(word: &[u8], number: u8) -> bool
+    ensures { result ≡ bytes_eq word.now (decimal number) }
+{
+    is_word(word, Buffer::new().format(number).as_bytes())
+}
+
+/// Returns whether a CPU stands behind the work in a line of this word, in which so much more stands behind it.
+pub(crate) fn wants_cpu(word: &[u8], more: &[Token<'_>]) -> bool
+    ensures { result ≡ wants_cpu word.now (words_in more.now) }
+{
+    is_word(word, b"queue")
+        || ((is_word(word, b"delay") || is_word(word, b"mod")) && !more.is_empty())
+}
+
+/// Returns what is said of a line of this word whose CPU isn't there.
+pub(crate) fn cpu_sentence(
+    alloc: Global,
+    cpus: u8,
+    word: &[u8],
+    cpu: &[u8],
+) -> Result<Vec<u8>, NoMemory>
+    ensures { IfOk result (λ said. said.items ≡ cpu_sentence cpus word.now cpu.now) }
+{
+    let mut buffer = Buffer::new();
+    let mut said = joined(
+        alloc,
+        b"the run refuses its CPU; cpus is ",
+        buffer.format(cpus).as_bytes(),
+        b" and CPUs count from 0, so there is no CPU ",
+    )?;
+    said.extend_from_slice(cpu)?;
+    said.extend_from_slice(b": ")?;
+    said.extend_from_slice(word)?;
+    said.extend_from_slice(operands_with_cpu(word))?;
+    Ok(said)
+}
+
+/// Returns the operands of a line of this word, each behind a blank.
+fn operands_with_cpu(word: &[u8]) -> &'static [u8]
+    ensures { word.now ++ result.now ≡ cpu_form word.now }
+{
+    if is_word(word, b"queue") {
+        b" WORK CPU"
+    } else {
+        b" WORK CPU N"
+    }
+}
+
+/// Returns whether the actors have more instructions, questions aside, than are accepted.
+pub(crate) fn has_few_steps(scenario: &Scenario) -> bool
+    ensures { result ≡ has_few_steps scenario.now }
+{
+    left_by_actors(scenario.steps, &scenario.actors).is_none()
+}
+
+/// Returns how many steps the actors' instructions leave; `None` if they are more than there are.
+fn left_by_actors(steps: u32, actors: &[Actor]) -> Option<u32>
+    ensures { result ≡ left_by_actors (Some steps) actors.now }
+{
+    let mut left = Some(steps);
+    for actor in actors {
+        left = left_by_actor(left, actor);
+    }
+    left
+}
+
+/// Returns how many of these steps the actor's instructions leave.
+fn left_by_actor(left: Option<u32>, actor: &Actor) -> Option<u32>
+    ensures { result ≡ left_by_actor left actor.now }
+{
+    match left {
+        Some(left) => left_by(left, &actor.lines),
+        None => None,
+    }
+}
+
+/// Returns how many of these steps the lines' instructions leave.
+fn left_by(steps: u32, lines: &[Line]) -> Option<u32>
+    ensures { result ≡ left_by steps lines.now }
+{
+    let mut left = steps;
+    for line in lines {
+        let cost = line_cost(*line);
+        if left < cost {
+            return None;
+        }
+        left -= cost;
+    }
+    Some(left)
+}
+
+/// Returns how many steps the line's instructions take.
+fn line_cost(line: Line) -> u32
+    ensures { result ≡ line_cost line }
+{
+    if is_question(line.instr) {
+        0
+    } else {
+        line.times
+    }
+}
+
+/// Returns what is said of these steps.
+pub(crate) fn steps_sentence(alloc: Global, steps: u32) -> Result<Vec<u8>, NoMemory>
+    ensures { IfOk result (λ said. said.items ≡ steps_sentence steps) }
+{
+    joined(
+        alloc,
+        b"instructions may be refused as Spent; at most ",
+        Buffer::new().format(steps).as_bytes(),
+        b" are accepted, and the actors have more",
+    )
+}
+
+/// Carries out the lines on the machine, up to the first that has no count and ends before what it goes on for has come. Returns that line's number and its
+/// instruction.
+pub(crate) fn first_early<M: Machine>(machine: &mut M, lines: &[Line]) -> Option<(usize, Instr)>
+    ensures { result ≡ first_early (M.loaded machine.old) (M.state machine.old) 0 lines.now }
+{
+    for number in 0..lines.len() {
+        issue_all(machine, &lines[number..number + 1]);
+        if is_early(machine, lines[number]) {
+            return Some((number, lines[number].instr));
+        }
+    }
+    None
+}
+
+/// Returns whether the line has no count, and what it goes on for hasn't come.
+fn is_early<R: Reads>(machine: &R, line: Line) -> bool
+    ensures { result ≡ is_early (R.loaded machine.now) (R.state machine.now) line }
+{
+    line.times == 1 && goes_on_for(line.instr) && !is_met(machine, line.instr)
+}
+
+/// Returns whether the instruction goes on for something.
+fn goes_on_for(instr: Instr) -> bool
+    ensures { result ≡ goes_on_for instr }
+{
+    matches!(instr, Instr::Until(_) | Instr::Wait(_) | Instr::Quiet)
+}
+
+/// Returns what is said of the instruction, where it ended too early. It fails only for want of memory.
+pub(crate) fn early_words(alloc: Global, instr: Instr) -> Result<Vec<u8>, NoMemory>
+    ensures { IfOk result (λ said. said.items ≡ early_words instr) }
+{
+    let mut buffer = Buffer::new();
+    match instr {
+        Instr::Until(time) => {
+            let said = until_sentence(alloc, buffer.format(time).as_bytes())?;
+            joined(alloc, b"until: ", &said, b"")
+        }
+        Instr::Wait(flush) => {
+            let said = wait_sentence(alloc, buffer.format(flush).as_bytes())?;
+            joined(alloc, b"wait: ", &said, b"")
+        }
+        Instr::Quiet => {
+            let said = quiet_sentence(alloc)?;
+            joined(alloc, b"quiet: ", &said, b"")
+        }
+        _ => Ok(Vec::new(alloc)),
+    }
+}
