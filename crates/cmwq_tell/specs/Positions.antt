@@ -46,10 +46,12 @@ told_lines told =
 -- The teller.
 
 -- what is told once the instruction is issued, where these were held
+abbrev pub told_if : ScenarioContents → Option Come → ℕ → State → Instr → (come : Bool) → List ℕ
+told_if S held k s i come =
+    if come then held_text S (ended held come i) else held_text S (ended held come i) ++ told_wholly S k s i (table S s i)
+
 abbrev pub told_then : ScenarioContents → Option Come → ℕ → State → Instr → List ℕ
-told_then S held k s i =
-    if has_come S s i then held_text S (ended held (has_come S s i) i)
-    else held_text S (ended held (has_come S s i) i) ++ told_wholly S k s i (table S s i)
+told_then S held k s i = told_if S held k s i (has_come S s i)
 
 -- one position more, if that is a number that there is
 abbrev pub position_then : ℕ → ℕ

@@ -59,11 +59,15 @@ pub record Part : Type 0 where
   pub first : ℕ
   pub last : ℕ
   pub come : Bool
-  -- all that is told of the first one
+  -- all that is told of one that hasn't come
   pub whole : List ℕ
 
+-- the part of one instruction, by whether it has come
+abbrev pub part_if : ScenarioContents → ℕ → State → Instr → (come : Bool) → Part
+part_if S k s i come = record { instr = i; first = k; last = k; come = come; whole = if come then [] else told_wholly S k s i (table S s i) }
+
 abbrev pub part_at : ScenarioContents → ℕ → State → Instr → Part
-part_at S k s i = record { instr = i; first = k; last = k; come = has_come S s i; whole = told_wholly S k s i (table S s i) }
+part_at S k s i = part_if S k s i (has_come S s i)
 
 -- the parts are of equal instructions that have come
 abbrev pub joins : Part → Part → Bool
