@@ -283,7 +283,7 @@ draw --explain asked.cmwq
 """.split("\n")[1:-1]]
 USES += [("debug every.cmwq", commands) for commands in (
     "", "step 9", "goto 24\nback 3", "goto 99", "break work a event starts\nrun", "break time 3\nrun\nrun", "break refusal\nclear 0\nclear 0",
-    "run", "dump", "goto 24\ndump", "goto 24\ndump pool 0", "why b", "goto 24\nwhy flush 1", "# nothing\n\nwalk",
+    "run", "next event\nnext event\nnext", "goto 24\nnext event\nnext event", "dump", "goto 24\ndump", "goto 24\ndump pool 0", "why b", "goto 24\nwhy flush 1", "# nothing\n\nwalk",
     "break work b event queues\n" * 17, "list\nbreak activates b\nbreak time 3\nlist\nrun\nrun\nback", "help", "s\nb\nquit\ndump",
 )]
 USES += [("debug --settle every.cmwq", "run"), ("debug --settle restless.cmwq", "run")]

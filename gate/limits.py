@@ -195,7 +195,7 @@ SESSIONS = [
     [*SIXTEEN, ("break refusal", "refused TooManyBreaks"), ("clear 3", "cleared 3"), ("break refusal", "break 3"), ("break refusal", "refused TooManyBreaks")],
     [("clear 0", "refused NoSuchBreak"), ("clear 255", "refused NoSuchBreak"), ("clear 256", "bad command")],
     [("dump pool 4", "refused NoSuchPool"), ("dump pool 255", "refused NoSuchPool"), ("dump pool 256", "bad command")],
-    [("goto 2", "at 2 now 1"), ("goto 3", "refused PastEnd"), ("step 1", "refused PastEnd"), ("run", "refused PastEnd")],
+    [("goto 2", "at 2 now 1"), ("goto 3", "refused PastEnd"), ("step 1", "refused PastEnd"), ("run", "refused PastEnd"), ("next event", "refused PastEnd")],
     [("step 3", "refused PastEnd"), ("step 2", "at 2 now 1"), ("back 3", "refused PastStart"), ("back 2", "at 0 now 0"), ("back 1", "refused PastStart")],
     [(f"{word} {MOST_COUNT}", "refused PastEnd") for word in ("step", "goto")] + [(f"{word} {MOST_COUNT + 1}", "bad command") for word in ("step", "goto")],
     [(f"back {MOST_COUNT}", "refused PastStart"), (f"back {MOST_COUNT + 1}", "bad command")],

@@ -104,14 +104,14 @@ SCENARIOS = {"crowded": CROWDED, "long": LONG, "every": hostile.EVERY, "late": h
 TABLE = """
 crowded: Scenario::copy list read write Plain::load Plain::copy Plain::look Core::load Core::copy Core::look dump_text
 crowded: Lists::new Lists::copy Timers::new Timers::copy TicketLock::open Engine::open Shared::open
-long: Debugger::open Step Back Goto Goto-copy Run BreakWork BreakTime BreakRefusal BreakActivation List Clear Dump DumpPool Why WhyFlush
+long: Debugger::open Step Back Goto Goto-copy Run NextEvent BreakWork BreakTime BreakRefusal BreakActivation List Clear Dump DumpPool Why WhyFlush
 every: assemble read_text run list_text from_image to_image debug play
 late: run
 asks: play
 """
 ROWS = [(call, name) for name, calls in re.findall("^(.*): (.*)$", TABLE, re.M) for call in calls.split()]
 # These answer all the same: a debugger goes on without the copies that it makes on its way forward, and the others take no memory.
-NEVER = {"Step", "Goto-copy", "Run", "BreakWork", "BreakTime", "BreakRefusal", "BreakActivation", "Clear"}
+NEVER = {"Step", "Goto-copy", "Run", "NextEvent", "BreakWork", "BreakTime", "BreakRefusal", "BreakActivation", "Clear"}
 
 
 class Caller(refused_memory.Worker):

@@ -202,6 +202,7 @@ Words that are cut short, and breaks as they are listed.
   clear I: removes break I
   list: tells the breaks
   run: goes forward up to the first instruction that a break matches, or to the end
+  next event: goes forward up to the first instruction that prints a line, or to the end
   dump [pool P]: tells the state, or what is in pool P
   why W | flush F: tells why work W isn't further, or what flush F waits for
   help: tells the commands; the first word may be cut short where no other one begins so

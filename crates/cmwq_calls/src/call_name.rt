@@ -116,6 +116,7 @@ fn asked_of(word: &str) -> Option<Asked> {
         "Goto" => Some(Asked::Going(Way::Goto)),
         "Goto-copy" => Some(Asked::Going(Way::GotoCopy)),
         "Run" => Some(Asked::Going(Way::Run)),
+        "NextEvent" => Some(Asked::Going(Way::NextEvent)),
         _ => Some(Asked::There(command_of(word)?)),
     }
 }

@@ -33,6 +33,8 @@ pub(crate) enum Way {
     GotoCopy,
     /// To the end, over positions at which machines are copied.
     Run,
+    /// To the next instruction that prints a line, or to the end, over such positions.
+    NextEvent,
 }
 
 /// The breaks that are there before the command.
@@ -188,6 +190,7 @@ fn way_of(asked: Asked, there: u32, end: u32) -> ([u32; 2], Command) {
         Asked::Going(Way::Goto) => ([end, end], Command::Goto(there)),
         Asked::Going(Way::GotoCopy) => ([end, there], Command::Goto(end)),
         Asked::Going(Way::Run) => ([there, there], Command::Run),
+        Asked::Going(Way::NextEvent) => ([there, there], Command::NextEvent),
         Asked::There(command) => ([end, there], command),
     }
 }

@@ -17,6 +17,7 @@ dump
 why b
 why flush 0
 back 3
+next event
 clear 0
 run
 ";

@@ -55,7 +55,8 @@ pub const RUN: &str = "\
 Prints a line for each thing that happens: the time, the work, and what it did. With --settle it goes on by `next` behind the
 actor's instructions, until no work is pending and none runs. With --tell each instruction stands before its line, behind its position,
 and behind it what it changed unseen: works placed or activated, timers set, the workers of those that start, time passed. These lines
-begin with #. Where both are given and the machine never is quiet, nothing is printed.
+begin with #. Equal instructions in a row that have nothing left to go on for have one line, with the first and the last position.
+Where both are given and the machine never is quiet, nothing is printed.
 
 Exit status:
   0  every instruction was carried out, or refused in a line of its own
@@ -248,9 +249,9 @@ Example:
 
 /// What follows the help of `debug`.
 pub const DEBUG: &str = "\
-Commands are lines of standard input: step N, back N, goto K, run, break work W event E, break time T,
-break refusal, break activates W, clear I, list, dump, dump pool P, why W, why flush F, help, quit. Prints the answer to each
-before the next is read. With --settle the run goes on by `next` behind the actor's instructions, until no work is pending and none runs.
+Commands are lines of standard input: step N, back N, goto K, run, next event, break work W event E,
+break time T, break refusal, break activates W, clear I, list, dump, dump pool P, why W, why flush F, help, quit. Prints the answer
+to each before the next is read. With --settle the run goes on by `next` behind the actor's instructions, until no work is pending and none runs.
 
 Exit status:
   0  the input ended, or `quit` came; refused and bad commands are answered in lines of their own

@@ -1,5 +1,5 @@
 -- Carrying out the instructions of a list, one after another.
-use Rattle.std.proofs.Common.{◌≡◌, ℕ, zero, suc, ◌+◌, ◌-◌, ◌<◌, ◌≤◌, Bool, true, false, ◌&&◌, List, [], ◌∷◌, ◌++◌, length, Option, Some, None, take, arith, refl, sym, ap, ◌∙◌, subst}
+use Rattle.std.proofs.Common.{◌≡◌, ℕ, zero, suc, ◌+◌, ◌-◌, ◌<◌, ◌≤◌, Bool, true, false, not, ◌&&◌, List, [], ◌∷◌, ◌++◌, length, Option, Some, None, take, arith, refl, sym, ap, ◌∙◌, subst}
 use Rattle.std.proofs.lemmas.Bool.Decides.{nat_tests}
 use Rattle.std.proofs.lemmas.Grind.{common_steps}
 use Rattle.std.proofs.lemmas.List.{get_or-map}
@@ -11,11 +11,12 @@ use Rattle.cmwq_types.specs.declared.instr.Instr.{Instr}
 use Rattle.cmwq_types.specs.declared.instr.Instr.TheVariants.{Next}
 use Rattle.cmwq_types.specs.declared.reply.Reply.{Reply}
 use Rattle.cmwq_table.proofs.RunLemmas.{after_all-append}
+use Rattle.cmwq_table.specs.Events.{is_silent}
 use Rattle.cmwq_table.specs.State.{State, start}
 use Rattle.cmwq_table.specs.Table.{run, table}
 use Rattle.cmwq_debug.specs.Breaks.{break_at, lowest, matches_seen, matches_there, said_by, said_of, seen, sight_at}
 use Rattle.cmwq_debug.specs.Checkpoints.{Comes, Passes, Spread}
-use Rattle.cmwq_debug.specs.Debugging.{Session, break_of, last_carried, run_end, session_of, stop}
+use Rattle.cmwq_debug.specs.Debugging.{Session, break_of, event_end, is_event, last_carried, next_event, reply_behind, run_end, session_of, stop}
 use Rattle.cmwq_debug.specs.Replaying.{Course, HasAdvanced, HasGoneTo, next_reply}
 use Rattle.cmwq_debug.specs.declared.breaks.Break.{Break}
 use Rattle.cmwq_debug.specs.declared.breaks.Sight.{Sight}
@@ -124,3 +125,34 @@ module _ (d : Session) where
   unstopped k end none =
       let all : stop d ≡ None = subst (λ (n : ℕ). lowest matched n ≡ None) end none in
       ap (λ (n : ℕ). (n, None)) end ∙ sym (ap (run_end d) all)
+
+-- A way to the next event.
+module _ (S : ScenarioContents) (I : List Instr) (from : ℕ) where
+  pub no-event-yet : lowest (is_event S I from) from ≡ None
+  no-event-yet = lowest-none (is_event S I from) from (λ k less. and-first (nat_le from k) (not (is_silent (reply_behind S I k))) (grind (arith, nat_tests)))
+
+  pub no-event-more : (k : ℕ) (reply : Reply) → lowest (is_event S I from) k ≡ None → reply ≡ reply_behind S I k → is_silent reply ≡ true → lowest (is_event S I from) (k + 1) ≡ None
+  no-event-more k reply none is silent =
+      let next : suc k ≡ k + 1 = omega arith in
+      subst (λ (n : ℕ). lowest (is_event S I from) n ≡ None) next
+      (lowest-more (is_event S I from) k none (and-last (nat_le from k) (not (is_silent (reply_behind S I k))) (ap (λ (r : Reply). not (is_silent r)) (sym is) ∙ ap not silent)))
+
+  pub event-there : (k : ℕ) (reply : Reply) → from ≤ k → k < length I → lowest (is_event S I from) k ≡ None → reply ≡ reply_behind S I k → is_silent reply ≡ false
+      → k + 1 ≡ event_end I (next_event S I from)
+  event-there k reply forward less none is heard =
+      let passes : is_event S I from k ≡ true =
+      and-both (nat_le from k) (not (is_silent (reply_behind S I k))) (grind (arith, nat_tests)) (ap (λ (r : Reply). not (is_silent r)) (sym is) ∙ ap not heard)
+      in
+      let first : next_event S I from ≡ Some k = lowest-is (is_event S I from) k (length I) none passes less in
+      sym (ap (event_end I) first)
+
+  pub no-event : (k : ℕ) → k ≡ length I → lowest (is_event S I from) k ≡ None → k ≡ event_end I (next_event S I from)
+  no-event k end none =
+      let all : next_event S I from ≡ None = subst (λ (n : ℕ). lowest (is_event S I from) n ≡ None) end none in
+      end ∙ sym (ap (event_end I) all)
+
+-- the reply to the next instruction
+pub reply-is : (c : Course) (S : ScenarioContents) (I : List Instr) (k : ℕ) (reply : Reply) → c.scenario ≡ S → c.instrs ≡ I → c.position ≡ k → reply ≡ next_reply c → reply ≡ reply_behind S I k
+reply-is c S I k reply scenario instrs position is =
+    let told : next_reply c ≡ reply_behind S I k = rw (scenario, instrs, position) refl in
+    is ∙ told

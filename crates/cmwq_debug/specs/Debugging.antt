@@ -1,6 +1,6 @@
 -- What a debugger says: a fold over its commands, of a position and breaks. Each answer is read off the table's
 -- run over the first instructions of the list.
-use Rattle.std.specs.Prelude.{◌≡◌, ◌⊎◌, ℕ, zero, suc, ◌+◌, ◌-◌, ◌&&◌, List, [], ◌∷◌, length, replicate, take, Option, Some, None, Result, Ok, Err, if◌then◌else◌, is_some, nat_le, nat_lt, slice_index_or, slice_set}
+use Rattle.std.specs.Prelude.{◌≡◌, ◌⊎◌, ℕ, zero, suc, ◌+◌, ◌-◌, Bool, not, ◌&&◌, List, [], ◌∷◌, length, replicate, take, Option, Some, None, Result, Ok, Err, if◌then◌else◌, is_some, nat_le, nat_lt, slice_index_or, slice_set}
 use Rattle.cmwq_types.specs.Contents.{ScenarioContents}
 use Rattle.cmwq_types.specs.Faults.{first_fault, IsValid}
 use Rattle.cmwq_types.specs.Scenario.{pool_count}
@@ -8,6 +8,7 @@ use Rattle.cmwq_types.specs.declared.instr.Instr.{Instr}
 use Rattle.cmwq_types.specs.declared.instr.WorkId.{WorkId}
 use Rattle.cmwq_types.specs.declared.instr.Instr.TheVariants.{Next}
 use Rattle.cmwq_types.specs.declared.reply.Reply.{Reply}
+use Rattle.cmwq_table.specs.Events.{is_silent}
 use Rattle.cmwq_table.specs.State.{State}
 use Rattle.cmwq_table.specs.Table.{run, table}
 use Rattle.cmwq_table.specs.declared.machine.LoadError.{LoadError}
@@ -64,6 +65,23 @@ last_carried S instrs (suc k) =
 
 abbrev pub last_of : Session → Option (Instr × Reply)
 last_of d = last_carried d.scenario d.instrs d.position
+
+-- The first instruction from a position on for which `run` prints a line.
+
+-- the table's reply to the instruction behind the first k of a list
+abbrev pub reply_behind : ScenarioContents → List Instr → ℕ → Reply
+reply_behind S instrs k = (table S (run S (take k instrs)) (slice_index_or instrs k Next)).1
+
+abbrev pub is_event : ScenarioContents → List Instr → ℕ → ℕ → Bool
+is_event S instrs from k = nat_le from k && not (is_silent (reply_behind S instrs k))
+
+abbrev pub next_event : ScenarioContents → List Instr → ℕ → Option ℕ
+next_event S instrs from = lowest (is_event S instrs from) (length instrs)
+
+-- the position behind that instruction, else the end
+abbrev pub event_end : List Instr → Option ℕ → ℕ
+event_end instrs (Some k) = k + 1
+event_end instrs None = length instrs
 
 -- the break that is said of it
 abbrev pub break_of : Session → ℕ → Option ℕ
@@ -133,6 +151,12 @@ runs_on d =
     if nat_lt d.position (length d.instrs) then stands d (run_end d (stop d)).0 (run_end d (stop d)).1
     else refuses d error.PastEnd
 
+-- Goes forward by at least one instruction, up to the first for which `run` prints a line, else to the end.
+abbrev pub goes_to_event : Session → Outcome
+goes_to_event d =
+    if nat_lt d.position (length d.instrs) then stands d (event_end d.instrs (next_event d.scenario d.instrs d.position)) None
+    else refuses d error.PastEnd
+
 abbrev pub dumps_pool : Session → ℕ → Outcome
 dumps_pool d pool =
     if nat_lt pool (pool_count d.scenario) then says d (Text (pool_lines d.scenario (state_at d d.position) pool))
@@ -161,6 +185,7 @@ does d (command.BreakActivation work) = breaks_on_work d work (OnActivation work
 does d command.List = says d (Text (list_text d.scenario d.breaks))
 does d (command.Clear i) = removed d i (break_at d.breaks i)
 does d command.Run = runs_on d
+does d command.NextEvent = goes_to_event d
 does d command.Dump = says d (Text (dump d.scenario (state_at d d.position)))
 does d (command.DumpPool pool) = dumps_pool d pool
 does d (command.Why work) = tells_why d work.0

@@ -33,6 +33,9 @@ pub enum Command {
     /// Goes forward by at least one instruction, up to the first after which a break matches, or to the
     /// end. Refused, as `PastEnd`, at the end.
     Run,
+    /// Goes forward by at least one instruction, up to the first for which `run` prints a line, or to the end. Breaks don't count.
+    /// Refused, as `PastEnd`, at the end.
+    NextEvent,
     /// Tells the state.
     Dump,
     /// Tells of the state what is in the worker pool. Refused, as `NoSuchPool`, where no pool has the number.

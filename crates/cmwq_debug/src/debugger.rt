@@ -1,5 +1,5 @@
 //! The debugger.
-ghost use Rattle.cmwq_debug.specs.Debugging.{Answer, At, Meets, OpensDebugger, answer_of, breaks_on, breaks_on_work, does, dumps_pool, goes, goes_back, last_of, opened, removed, runs_on, says, state_at, tells_waits, tells_why, time_at, Text};
+ghost use Rattle.cmwq_debug.specs.Debugging.{Answer, At, Meets, OpensDebugger, answer_of, breaks_on, breaks_on_work, does, dumps_pool, goes, goes_back, goes_to_event, last_of, opened, removed, runs_on, says, state_at, tells_waits, tells_why, time_at, Text};
 ghost use Rattle.cmwq_debug.specs.BreakLines.{list_text};
 ghost use Rattle.cmwq_debug.specs.Breaks.{break_at};
 ghost use Rattle.cmwq_debug.specs.Checkpoints.{AreRising};
@@ -153,6 +153,7 @@ impl<M: Machine> Debugger<M> {
             Command::List => self.list(),
             Command::Clear(number) => self.clear(number),
             Command::Run => self.run(),
+            Command::NextEvent => self.next_event(),
             Command::Dump => self.dump(),
             Command::DumpPool(pool) => self.dump_pool(pool),
             Command::Why(work) => self.why(work),
@@ -222,6 +223,17 @@ impl<M: Machine> Debugger<M> {
         }
         let by = self.replay.run_on(&self.breaks);
         Ok(self.at(by.map(|by| by as u8)))
+    }
+
+    /// Goes forward up to the first instruction for which `run` prints a line, or to the end.
+    fn next_event(&mut self) -> Result<Said, DebugError>
+        ensures { Meets (goes_to_event self.old) self.old self.new result }
+    {
+        if self.replay.position() == self.replay.end() {
+            return Err(DebugError::PastEnd);
+        }
+        self.replay.run_to_event();
+        Ok(self.at(None))
     }
 
     /// Makes a break on the work, if there is such a work.

@@ -1,6 +1,6 @@
 //! A list of instructions that is carried out on a machine, forwards and back, with checkpoints on the way.
 ghost use Rattle.cmwq_debug.specs.Checkpoints.{AreRising};
-ghost use Rattle.cmwq_debug.specs.Debugging.{last_carried, run_end, session_of, stop};
+ghost use Rattle.cmwq_debug.specs.Debugging.{event_end, last_carried, next_event, run_end, session_of, stop};
 ghost use Rattle.cmwq_debug.specs.Replaying.{HasAdvanced, HasGoneTo, HasReached, HasTurned, IsThere, at_start, next_reply};
 ghost use Rattle.cmwq_debug.specs.declared.checkpoints.TheConstants.{MAX_CHECKPOINTS};
 ghost use Rattle.cmwq_types.specs.Faults.{IsValid};
@@ -10,7 +10,7 @@ ghost use Rattle.std.specs.Prelude.{◌≡◌, ◌<◌, ◌≤◌, IfOk, IfSome,
 
 use crate::breaks::{Break, MAX_BREAKS, said_by, sights};
 use crate::checkpoints::{Checkpoint, Checkpoints};
-use cmwq_table::Machine;
+use cmwq_table::{Machine, is_silent};
 use cmwq_types::{Instr, NoMemory, Reply, Scenario};
 use std::alloc::Global;
 use std::marker::Model;
@@ -175,6 +175,17 @@ impl<M: Machine> Replay<M> {
             }
         }
         None
+    }
+
+    /// Carries out instructions up to the first for which a run prints a line, or to the end.
+    pub(crate) fn run_to_event(&mut self)
+        ensures { HasGoneTo self.old (event_end self.old.instrs (next_event self.old.scenario self.old.instrs self.old.position)) self.new }
+    {
+        for _step in self.position..self.end() {
+            if !is_silent(self.advance()) {
+                return;
+            }
+        }
     }
 
     /// The instruction that was carried out last, and its reply; none at the start. It is carried out once more: the replay goes back by

@@ -250,13 +250,14 @@ abbrev pub short_words : List (List (List ℕ))
 short_words =
     (codes "s" ∷ []) ∷ (codes "st" ∷ codes "3" ∷ []) ∷ (codes "b" ∷ []) ∷ (codes "ba" ∷ []) ∷ (codes "steps" ∷ []) ∷ (codes "step" ∷ codes "1" ∷ codes "1" ∷ [])
     ∷ (codes "br" ∷ codes "activates" ∷ codes "c" ∷ []) ∷ (codes "br" ∷ codes "act" ∷ codes "c" ∷ []) ∷ (codes "break" ∷ codes "activates" ∷ codes "d" ∷ []) ∷ (codes "l" ∷ [])
-    ∷ (codes "h" ∷ codes "s" ∷ []) ∷ (codes "quit" ∷ codes "1" ∷ []) ∷ (codes "q" ∷ []) ∷ []
+    ∷ (codes "h" ∷ codes "s" ∷ []) ∷ (codes "quit" ∷ codes "1" ∷ []) ∷ (codes "q" ∷ []) ∷ (codes "n" ∷ codes "event" ∷ []) ∷ (codes "next" ∷ []) ∷ (codes "next" ∷ codes "ev" ∷ [])
+    ∷ (codes "next" ∷ codes "event" ∷ codes "1" ∷ []) ∷ []
 
 abbrev pub short_orders : List Order
 short_orders =
     order.Do (command.Step 1) ∷ order.Do (command.Step 3) ∷ order.Bad ∷ order.Do (command.Back 1) ∷ order.Bad ∷ order.Bad
     ∷ order.Do (break_activation 2) ∷ order.Bad ∷ order.NoWork ∷ order.Do command.List
-    ∷ order.Bad ∷ order.Bad ∷ order.Quit ∷ []
+    ∷ order.Bad ∷ order.Bad ∷ order.Quit ∷ order.Do command.NextEvent ∷ order.Bad ∷ order.Bad ∷ order.Bad ∷ []
 
 -- a session that is ended before its commands are
 abbrev pub ended_session : List ℕ
@@ -298,6 +299,22 @@ said_over_a_tick =
     ++ codes "4 now 1> " ++ text_of_lines (codes "at 5 now 1" ∷ codes "  next" ∷ codes "  1 a finishes" ∷ [])
     ++ codes "5 now 1> " ++ text_of_lines (codes "no breaks" ∷ [])
     ++ codes "5 now 1> " ++ text_of_lines (codes "at 2 now 0" ∷ codes "  next" ∷ codes "  0 a starts" ∷ []) ++ codes "2 now 0> " ++ 10 ∷ []
+
+-- The same work, and an actor that goes on until nothing is left, then cancels it, and goes on again.
+
+abbrev pub quiet_end : ScenarioContents
+quiet_end =
+    scenario 1000 (queue (codes "q") 1 plain_flags ∷ []) (work (codes "a") 0 (op.Burn 1 ∷ op.Finish ∷ []) ∷ [])
+    (enqueue 0 0 ∷ times instr.Quiet 6 ∷ cancel 0 ∷ times instr.Quiet 2 ∷ [])
+
+abbrev pub next_events : List Command
+next_events = replicate 6 command.NextEvent ++ command.Back 9 ∷ command.BreakTime 1 ∷ command.NextEvent ∷ command.Goto 3 ∷ command.NextEvent ∷ []
+
+-- a starts, burns, and finishes behind a tick; two `quiet` later it isn't pending, and the last two print nothing; a break on the tick stops no way
+abbrev pub next_events_answers : List (Result Answer DebugError)
+next_events_answers =
+    stands_at 2 0 ∷ stands_at 3 0 ∷ stands_at 5 1 ∷ stands_at 8 1 ∷ stands_at 10 1 ∷ Err error.PastEnd ∷ stands_at 1 0 ∷ Ok (Broke 0) ∷ stands_at 2 0
+    ∷ stands_at 3 0 ∷ stands_at 5 1 ∷ []
 
 -- Sixteen breaks, and a seventeenth.
 

@@ -3,7 +3,7 @@
 #![tactic(auto)]
 
 ghost use Rattle.cmwq_debug.specs.Checkpoints.{entered, left_out, no_checkpoints, passed, turn_for};
-ghost use Rattle.cmwq_debug_examples.specs.Debugged.{activation, activation_answers, activation_breaks, at_even_multiples, commands_answered, commands_over_a_tick, chain_answers, chain_questions, disabled_breaks, disabled_breaks_answers, each_event, each_event_answers, each_event_breaks, ended_session, event_breaks, event_breaks_answers, hold_answers, hold_questions, list_answers, list_questions, all_instrs, many_breaks, many_breaks_answers, one_missing, one_tick, refusal_breaks, refusal_breaks_answers, refusals, rescuer_breaks, rescuer_breaks_answers, said_at_ended_terminal, said_at_terminal, said_in_ended_session, said_over_a_tick, short_orders, short_words, spread_at, there_and_back, there_and_back_answers, timers_from_bodies, timers_from_bodies_answers, timers_from_bodies_breaks, typed_commands};
+ghost use Rattle.cmwq_debug_examples.specs.Debugged.{activation, activation_answers, activation_breaks, at_even_multiples, commands_answered, commands_over_a_tick, chain_answers, chain_questions, disabled_breaks, disabled_breaks_answers, each_event, each_event_answers, each_event_breaks, ended_session, event_breaks, event_breaks_answers, hold_answers, hold_questions, list_answers, list_questions, all_instrs, many_breaks, many_breaks_answers, next_events, next_events_answers, one_missing, one_tick, quiet_end, refusal_breaks, refusal_breaks_answers, refusals, rescuer_breaks, rescuer_breaks_answers, said_at_ended_terminal, said_at_terminal, said_in_ended_session, said_over_a_tick, short_orders, short_words, spread_at, there_and_back, there_and_back_answers, timers_from_bodies, timers_from_bodies_answers, timers_from_bodies_breaks, typed_commands};
 ghost use Rattle.cmwq_debug_lines.specs.Orders.{order_of};
 ghost use Rattle.cmwq_debug_lines.specs.Prompt.{debugged};
 ghost use Rattle.cmwq_debug_lines.specs.declared.manner.Manner.TheVariants.{Plain, Prompted};
@@ -106,6 +106,12 @@ pub fn prompt_has_the_time_there()
     ensures { debugged Prompted one_tick (all_instrs one_tick) commands_over_a_tick ≡ said_over_a_tick }
 {}
 
+/// The way to the next event goes past what prints nothing: a work that is queued, a tick, and what has come; where no line is left, it goes to the
+/// end. No break stops it.
+pub fn next_event_prints_a_line()
+    ensures { commands_answered quiet_end (all_instrs quiet_end) next_events ≡ next_events_answers }
+{}
+
 /// There are sixteen places for breaks; a work that isn't there is told before that they are taken.
 pub fn seventeenth_break_is_refused()
     ensures { commands_answered queues_itself [] many_breaks ≡ many_breaks_answers }
@@ -129,6 +135,7 @@ pub fn scenarios_are_valid()
     ensures each_event { IsValid each_event }
     ensures activation { IsValid activation }
     ensures one_tick { IsValid one_tick }
+    ensures quiet_end { IsValid quiet_end }
     ensures timers_from_bodies { IsValid timers_from_bodies }
 {}
 

@@ -67,6 +67,11 @@ break_order S (word ∷ rest) =
     else if bytes_eq word (codes "activates") then activation_break S rest
     else Bad
 
+-- behind `next`
+abbrev pub next_order : List (List ℕ) → Order
+next_order [] = Bad
+next_order (word ∷ rest) = if bytes_eq word (codes "event") then alone command.NextEvent rest else Bad
+
 -- behind `dump`
 abbrev pub dump_order : List (List ℕ) → Order
 dump_order [] = Do command.Dump
@@ -98,6 +103,7 @@ verb_order S verb.Break rest = break_order S rest
 verb_order S verb.Clear rest = with_number command.Clear 255 rest
 verb_order S verb.List rest = alone command.List rest
 verb_order S verb.Run rest = alone command.Run rest
+verb_order S verb.Next rest = next_order rest
 verb_order S verb.Dump rest = dump_order rest
 verb_order S verb.Why rest = why_order S rest
 verb_order S verb.Help rest = only Help rest

@@ -14,6 +14,7 @@ spelling verb.Break = codes "break"
 spelling verb.Clear = codes "clear"
 spelling verb.List = codes "list"
 spelling verb.Run = codes "run"
+spelling verb.Next = codes "next"
 spelling verb.Dump = codes "dump"
 spelling verb.Why = codes "why"
 spelling verb.Help = codes "help"
@@ -21,7 +22,7 @@ spelling verb.Quit = codes "quit"
 
 abbrev pub verbs : List Verb
 verbs =
-    verb.Step ∷ verb.Back ∷ verb.Goto ∷ verb.Break ∷ verb.Clear ∷ verb.List ∷ verb.Run ∷ verb.Dump ∷ verb.Why ∷ verb.Help ∷ verb.Quit ∷ []
+    verb.Step ∷ verb.Back ∷ verb.Goto ∷ verb.Break ∷ verb.Clear ∷ verb.List ∷ verb.Run ∷ verb.Next ∷ verb.Dump ∷ verb.Why ∷ verb.Help ∷ verb.Quit ∷ []
 
 -- the first of these that is spelled so
 abbrev pub first_spelled : List Verb → List ℕ → Option Verb
@@ -55,6 +56,7 @@ usage verb.Break = codes " work W event E | time T | refusal | activates W: make
 usage verb.Clear = codes " I: removes break I"
 usage verb.List = codes ": tells the breaks"
 usage verb.Run = codes ": goes forward up to the first instruction that a break matches, or to the end"
+usage verb.Next = codes " event: goes forward up to the first instruction that prints a line, or to the end"
 usage verb.Dump = codes " [pool P]: tells the state, or what is in pool P"
 usage verb.Why = codes " W | flush F: tells why work W isn't further, or what flush F waits for"
 usage verb.Help = codes ": tells the commands; the first word may be cut short where no other one begins so"

@@ -1,5 +1,5 @@
 //! Reading an order off the words of a line.
-ghost use Rattle.cmwq_debug_lines.specs.Orders.{activation_break, alone, break_order, dump_order, on_activation, on_work, only, order_of, verb_order, why_order, why_work, with_count, with_number, work_break, work_named};
+ghost use Rattle.cmwq_debug_lines.specs.Orders.{activation_break, alone, break_order, dump_order, next_order, on_activation, on_work, only, order_of, verb_order, why_order, why_work, with_count, with_number, work_break, work_named};
 ghost use Rattle.cmwq_debug.specs.declared.command.Command.{Command};
 ghost use Rattle.cmwq_types.specs.declared.limits.TheConstants.{MAX_WORKS};
 ghost use Rattle.cmwq_scan.specs.Words.{words_in};
@@ -38,6 +38,7 @@ fn verb_order(scenario: &Scenario, verb: Verb, words: &[Token]) -> Order
         Verb::Clear => number_order(|number| Command::Clear(number as u8), 255, words),
         Verb::List => alone(Command::List, words),
         Verb::Run => alone(Command::Run, words),
+        Verb::Next => next_order(words),
         Verb::Dump => dump_order(words),
         Verb::Why => why_order(scenario, words),
         Verb::Help => only(Order::Help, words),
@@ -81,6 +82,16 @@ fn only(order: Order, words: &[Token]) -> Order
     ensures { result ≡ only order (words_in words.now) }
 {
     if words.is_empty() { order } else { Order::Bad }
+}
+
+/// Behind `next`: the word `event`.
+fn next_order(words: &[Token]) -> Order
+    ensures { result ≡ next_order (words_in words.now) }
+{
+    match words {
+        [word, rest @ ..] if is_word(word.bytes(), b"event") => alone(Command::NextEvent, rest),
+        _ => Order::Bad,
+    }
 }
 
 /// Behind `dump`.

@@ -17,13 +17,14 @@ pub enum Verb {
     Clear,
     List,
     Run,
+    Next,
     Dump,
     Why,
     Help,
     Quit,
 }
 
-const VERBS: [Verb; 11] = [
+const VERBS: [Verb; 12] = [
     Verb::Step,
     Verb::Back,
     Verb::Goto,
@@ -31,6 +32,7 @@ const VERBS: [Verb; 11] = [
     Verb::Clear,
     Verb::List,
     Verb::Run,
+    Verb::Next,
     Verb::Dump,
     Verb::Why,
     Verb::Help,
@@ -60,6 +62,7 @@ impl Verb {
             Verb::Clear => "clear",
             Verb::List => "list",
             Verb::Run => "run",
+            Verb::Next => "next",
             Verb::Dump => "dump",
             Verb::Why => "why",
             Verb::Help => "help",
@@ -80,6 +83,9 @@ impl Verb {
             Verb::List => ": tells the breaks",
             Verb::Run => {
                 ": goes forward up to the first instruction that a break matches, or to the end"
+            }
+            Verb::Next => {
+                " event: goes forward up to the first instruction that prints a line, or to the end"
             }
             Verb::Dump => " [pool P]: tells the state, or what is in pool P",
             Verb::Why => " W | flush F: tells why work W isn't further, or what flush F waits for",

@@ -6,6 +6,7 @@ use Rattle.cmwq_types.specs.Scenario.{expand}
 use Rattle.cmwq_types.specs.declared.instr.WorkId.{WorkId}
 use Rattle.cmwq_types.specs.declared.instr.Instr.{Instr}
 use Rattle.cmwq_draw.specs.Hints.{hints}
+use Rattle.cmwq_draw.specs.SpanEnd.{span_drawn}
 use Rattle.cmwq_picture.specs.PictureContents.{PictureContents}
 use Rattle.cmwq_picture.specs.PictureOfRun.{is_too_wide, picture}
 use Rattle.cmwq_render.specs.Sketch.{picture_text}
@@ -32,8 +33,9 @@ rendered (Svg style) S instrs P = svg_text S P (hints S instrs P) (id_of style.i
 -- the drawing of the run of an actor of the scenario, with rows of these works, or of all
 abbrev pub drawing_of : Drawing → ScenarioContents → ActorContents → Option (List WorkId) → List ℕ
 drawing_of drawing S actor works =
-    rendered drawing.form S (expand actor) (picture S (expand actor) (record { span = drawing.span; fold = drawing.fold; works = works }))
+    rendered drawing.form S (expand actor)
+    (picture S (expand actor) (record { span = span_drawn S (expand actor) drawing.span; fold = drawing.fold; works = works }))
 
 -- Whether it would have more columns than are drawn unasked.
 abbrev pub is_wide : Drawing → ScenarioContents → ActorContents → Bool
-is_wide drawing S actor = is_too_wide S (expand actor) drawing.span
+is_wide drawing S actor = is_too_wide S (expand actor) (span_drawn S (expand actor) drawing.span)

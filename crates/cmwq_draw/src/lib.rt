@@ -7,6 +7,7 @@ pub mod examples;
 mod hinting;
 mod picking;
 mod rendering;
+mod span_end;
 mod walking;
 
 pub use drawing_run::draw;

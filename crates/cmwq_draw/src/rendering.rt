@@ -6,6 +6,7 @@ ghost use Rattle.cmwq_types.specs.Scenario.{expand_lines};
 ghost use Rattle.std.specs.Prelude.{◌≡◌, ◌⊎◌, ◌<◌, Err, IfErr, IfOk, false, true};
 
 use crate::hints;
+use crate::span_end::span_drawn;
 use cmwq_drawing::{Drawing, Form};
 use cmwq_picture::{Extent, Picture, picture};
 use cmwq_render::sketch;
@@ -31,8 +32,9 @@ pub fn drawing_of<M: Machine>(
     ensures wide { result ≡ Err PlayError.TooWide → is_wide drawing.entry scenario.now.value actor.now ≡ true }
     ensures why { IfErr result (λ error. (error ≡ PlayError.TooWide) ⊎ (error ≡ PlayError.NoMemory)) }
 {
+    let span = span_drawn::<M>(alloc, scenario, &actor.lines, drawing.span)?;
     let extent = Extent {
-        span: drawing.span,
+        span,
         fold: drawing.fold,
         works,
     };

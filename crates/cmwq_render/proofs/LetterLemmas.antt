@@ -11,7 +11,7 @@ use Rattle.std.specs.Option.{is_some, option_or, unwrap_or}
 use Rattle.std.specs.Set.{is_member}
 use Rattle.cmwq_types.specs.Contents.{WorkContents}
 use Rattle.cmwq_render.specs.Laws.{EachHasOne, NoTwoAreAlike}
-use Rattle.cmwq_render.specs.Letters.{alphabet, begins_another, candidates, free_letter, is_free, is_letter, letter_of, letters_from}
+use Rattle.cmwq_render.specs.Letters.{alphabet, candidates, free_letter, is_free, is_letter, is_spare, letter_of, letters_from}
 
 swapped : (m n : ℕ) → eqb m n ≡ eqb n m
 swapped m n = by (eqb m n) (eqb n m) refl refl
@@ -122,7 +122,7 @@ one-more xs c = length-append xs (c ∷ [])
 
 -- what a work could be called by, ahead of all letters
 abbrev best : List WorkContents → ℕ → List ℕ → List ℕ
-best works w name = filter (λ (c : ℕ). not (begins_another w c 0 works)) (name ++ alphabet)
+best works w name = filter (is_spare works w) (name ++ alphabet)
 
 distinct-from : (works : List WorkContents) (given : List ℕ) (w : ℕ) (others : List WorkContents) → length given + length others ≤ 62 → IsDistinct eqb given → IsDistinct eqb (letters_from works given w others)
 distinct-from works given w [] h d = d

@@ -106,7 +106,7 @@ each_sign_text =
     codes "pressure   |      *  |" ∷
     codes "actor      |        ^|" ∷
     codes "gap        |       : |" ∷
-    codes "# burns  = runnable, without the CPU  . asleep  - listed  x inactive  ~ on a timer  + deferred  ^ the actor acts" ∷
+    codes "# burns  = runnable, without the CPU  . asleep  - listed  x inactive  ~ on a timer  + deferred  * in effect  ^ the actor acts" ∷
     codes ": 36 ticks from 14 on: nothing changes" ∷
     codes "^ at 7: queue bc 0" ∷
     codes "^ at 50: queue a 0, thaw" ∷ [])
@@ -156,13 +156,17 @@ long_times_text = text_of_lines (codes "     9980                10000" ∷ code
 abbrev pub named : List (List ℕ) → ScenarioContents
 named of = names (map named_work of)
 
--- t begins the last work's name, and no letter of that name is left
+-- t begins the last work's name, and x is a sign
 abbrev pub alike : ScenarioContents
 alike = named (codes "tx" ∷ codes "ty" ∷ codes "t" ∷ codes "t_3" ∷ [])
 
 -- what begins a later work's name isn't given before
 abbrev pub kept_free : ScenarioContents
 kept_free = named (codes "xb" ∷ codes "xc" ∷ codes "b" ∷ codes "xa" ∷ [])
+
+-- a work that is called as a sign is
+abbrev pub called_as_a_sign : ScenarioContents
+called_as_a_sign = named (codes "x" ∷ codes "b" ∷ [])
 
 -- so many works of one name
 abbrev pub namesakes : ℕ → ScenarioContents

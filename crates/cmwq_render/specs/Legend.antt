@@ -36,7 +36,7 @@ sign_meaning sign.Deferred = codes "deferred"
 abbrev pub explicable : List Cell
 explicable =
     Does sign.Burns ∷ Does sign.Waits ∷ Does sign.Sleeps ∷ Does sign.Listed ∷ Does sign.Inactive ∷ Does sign.Timed ∷ Does sign.Deferred
-    ∷ Acts ∷ []
+    ∷ Lasts ∷ Acts ∷ []
 
 -- whether a row shows the cell somewhere
 abbrev pub is_shown : List RowContents → Cell → Bool
@@ -61,7 +61,7 @@ sampled rows = explained rows ++ (if shows_armed rows then Armed (record { 0 = 0
 abbrev pub meaning : Cell → List ℕ
 meaning (Does sign) = sign_meaning sign
 meaning Acts = codes "the actor acts"
-meaning Lasts = []
+meaning Lasts = codes "in effect"
 meaning Empty = []
 meaning (Burner w) = []
 meaning (Armed by) = codes "on a timer that a work has just set"

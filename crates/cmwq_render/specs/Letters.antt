@@ -3,12 +3,14 @@ use Rattle.std.specs.Prelude.{ℕ, ◌+◌, Bool, true, false, not, ◌&&◌, �
 use Rattle.std.specs.List.{filter, find, list_any, slice_get}
 use Rattle.cmwq_types.specs.Contents.{ScenarioContents, WorkContents}
 use Rattle.cmwq_types.specs.Scenario.{work_at}
+use Rattle.cmwq_picture.specs.declared.cell.Sign.TheVariants as sign
 use Rattle.cmwq_picture.specs.declared.row.Title.{Title}
 use Rattle.cmwq_picture.specs.declared.row.Title.TheVariants as title
+use Rattle.cmwq_render.specs.Legend.{sign_mark}
 
--- the letters that there are, from the first to be given on
+-- the letters that there are, from the first to be given on; x comes last, since it is also the sign of an inactive work
 abbrev pub alphabet : List ℕ
-alphabet = codes "abcdefghijklmnopqrstuvwxyzABCDEFGHIJKLMNOPQRSTUVWXYZ0123456789"
+alphabet = codes "abcdefghijklmnopqrstuvwyzABCDEFGHIJKLMNOPQRSTUVWXYZ0123456789x"
 
 abbrev pub is_letter : ℕ → Bool
 is_letter c = list_any (λ letter. letter == c) alphabet
@@ -23,9 +25,17 @@ abbrev pub begins_another : ℕ → ℕ → ℕ → List WorkContents → Bool
 begins_another w c at [] = false
 begins_another w c at (work ∷ works) = (not (at == w) && begins_with c work.name) || begins_another w c (at + 1) works
 
--- What a work could be called by, the best first: the letters of its name, and all others, that begin no other work's name; and then all.
+-- a letter that stands for no sign: of the signs one alone is a letter
+abbrev pub is_no_sign : ℕ → Bool
+is_no_sign c = not (c == sign_mark sign.Inactive)
+
+-- the letter is no sign, and begins no other work's name
+abbrev pub is_spare : List WorkContents → ℕ → ℕ → Bool
+is_spare works w c = is_no_sign c && not (begins_another w c 0 works)
+
+-- What a work could be called by, the best first: the spare letters of its name, then the other spare ones, and then all.
 abbrev pub candidates : List WorkContents → ℕ → List ℕ → List ℕ
-candidates works w name = filter (λ c. not (begins_another w c 0 works)) (name ++ alphabet) ++ alphabet
+candidates works w name = filter (is_spare works w) (name ++ alphabet) ++ alphabet
 
 abbrev pub is_free : List ℕ → ℕ → Bool
 is_free given c = is_letter c && not (list_any (λ letter. letter == c) given)

@@ -1,5 +1,5 @@
 //! Worked pictures, as theorems over the definitions: the functions do nothing.
-ghost use Rattle.cmwq_render.specs.Examples.{alike, armed_names, armed_rows, armed_rows_text, each_sign, each_sign_text, first_table, first_table_text, kept_free, last_of_63, last_of_63_text, long_times_text, named_work, names, namesakes, only_times, short_times_text, three_names};
+ghost use Rattle.cmwq_render.specs.Examples.{alike, armed_names, armed_rows, armed_rows_text, called_as_a_sign, each_sign, each_sign_text, first_table, first_table_text, kept_free, last_of_63, last_of_63_text, long_times_text, named_work, names, namesakes, only_times, short_times_text, three_names};
 ghost use Rattle.cmwq_render.specs.Letters.{letters};
 ghost use Rattle.cmwq_render.specs.Sketch.{picture_text};
 ghost use Rattle.std.specs.Prelude.{◌≡◌, ◌∷◌, [], codes};
@@ -26,10 +26,12 @@ pub fn times_have_room()
     ensures long { picture_text (names []) (only_times 9980 20) ≡ long_times_text }
 {}
 
-/// A work has the first letter of its name that is left and begins no other name, else the first of all letters, and else any that is left.
+/// A work has the first letter of its name that is left, is no sign and begins no other name, else the first of all letters that is so, and else any
+/// that is left.
 pub fn letters_are_given()
-    ensures alike { letters alike ≡ codes "xya3" }
+    ensures alike { letters alike ≡ codes "ayb3" }
     ensures kept { letters kept_free ≡ codes "acbd" }
+    ensures sign { letters called_as_a_sign ≡ codes "ab" }
     ensures many { letters (namesakes 62) ≡ codes "yabcdefghijklmnopqrstuvwzABCDEFGHIJKLMNOPQRSTUVWXYZ0123456789x" }
 {}
 

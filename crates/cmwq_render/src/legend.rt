@@ -8,7 +8,7 @@ use cmwq_types::{NoMemory, WorkId};
 use std::alloc::Global;
 
 /// What a legend explains, in its order.
-const EXPLICABLE: [Cell; 8] = [
+const EXPLICABLE: [Cell; 9] = [
     Cell::Does(Sign::Burns),
     Cell::Does(Sign::Waits),
     Cell::Does(Sign::Sleeps),
@@ -16,10 +16,11 @@ const EXPLICABLE: [Cell; 8] = [
     Cell::Does(Sign::Inactive),
     Cell::Does(Sign::Timed),
     Cell::Does(Sign::Deferred),
+    Cell::Lasts,
     Cell::Acts,
 ];
 
-/// What the legend of a picture with these rows explains: the signs that occur in it, and whether the actor acts. That
+/// What the legend of a picture with these rows explains: the signs that occur in it, a freeze or memory pressure, and whether the actor acts. That
 /// a name on the row of a CPU or worker is who burns there goes without saying. The only error is want of memory.
 pub(crate) fn explained(alloc: Global, rows: &[Row]) -> Result<Vec<Cell>, NoMemory>
     ensures { IfOk result (λ cells. cells.items ≡ explained rows.now) }
@@ -83,9 +84,10 @@ pub fn meaning(cell: Cell) -> &'static str
 {
     match cell {
         Cell::Does(sign) => sign_meaning(sign),
+        Cell::Lasts => "in effect",
         Cell::Acts => "the actor acts",
         Cell::Armed(_) => "on a timer that a work has just set",
-        Cell::Empty | Cell::Burner(_) | Cell::Lasts => "",
+        Cell::Empty | Cell::Burner(_) => "",
     }
 }
 

@@ -1,14 +1,15 @@
 //! The letters by which the text of a picture calls works.
-ghost use Rattle.cmwq_render.specs.Letters.{alphabet, begins_another, begins_with, candidates, free_letter, is_free, is_letter, letter_of, letter_shown, letters, letters_from, unless_name};
+ghost use Rattle.cmwq_render.specs.Letters.{alphabet, begins_another, begins_with, candidates, free_letter, is_free, is_letter, is_no_sign, is_spare, letter_of, letter_shown, letters, letters_from, unless_name};
 ghost use Rattle.std.specs.List.{filter, find, list_any};
 ghost use Rattle.std.specs.Prelude.{◌≡◌, ◌==◌, ◌<◌, ◌++◌, IfOk, IfSome, IsTrue, OnOk, not};
 
-use cmwq_picture::Title;
+use crate::sketching::sign_mark;
+use cmwq_picture::{Sign, Title};
 use cmwq_types::{NoMemory, Scenario, WorkDecl};
 use std::alloc::Global;
 
-/// The letters that there are, from the first to be given on.
-const ALPHABET: &[u8; 62] = b"abcdefghijklmnopqrstuvwxyzABCDEFGHIJKLMNOPQRSTUVWXYZ0123456789";
+/// The letters that there are, from the first to be given on. The last one is also the sign of an inactive work.
+const ALPHABET: &[u8; 62] = b"abcdefghijklmnopqrstuvwyzABCDEFGHIJKLMNOPQRSTUVWXYZ0123456789x";
 
 /// A letter or digit of its own for each work, by number: where no other work's name begins so a letter of its name, else another one;
 /// none where there are more than 62 works.
@@ -62,21 +63,35 @@ fn candidates(alloc: Global, works: &[WorkDecl], w: usize, name: &[u8]) -> Resul
     Ok(found)
 }
 
-/// Pushes those of these letters that begin no other work's name.
+/// Pushes the spare ones of these letters.
 fn push_spare(
     found: &mut Vec<u8>,
     works: &[WorkDecl],
     w: usize,
     letters: &[u8],
 ) -> Result<(), NoMemory>
-    ensures { OnOk result (found.new.items ≡ found.old.items ++ filter (λ c. not (begins_another w c 0 works.now)) letters.now) }
+    ensures { OnOk result (found.new.items ≡ found.old.items ++ filter (is_spare works.now w) letters.now) }
 {
     for letter in letters {
-        if !begins_another(works, w, *letter) {
+        if is_spare(works, w, *letter) {
             found.push(*letter)?;
         }
     }
     Ok(())
+}
+
+/// Returns whether the letter is no sign and begins no other work's name.
+fn is_spare(works: &[WorkDecl], w: usize, letter: u8) -> bool
+    ensures { result ≡ is_spare works.now w letter }
+{
+    is_no_sign(letter) && !begins_another(works, w, letter)
+}
+
+/// Returns whether the letter stands for no sign.
+fn is_no_sign(letter: u8) -> bool
+    ensures { result ≡ is_no_sign letter }
+{
+    letter != sign_mark(Sign::Inactive)
 }
 
 /// Whether a work's name, but for this one's, begins with the letter.

@@ -113,7 +113,7 @@ fn mark_of(scenario: &Scenario, letters: &[u8], cell: Cell) -> u8
 }
 
 /// The sign that stands for what a work does.
-fn sign_mark(sign: Sign) -> u8
+pub(crate) fn sign_mark(sign: Sign) -> u8
     ensures { result ≡ sign_mark sign }
 {
     match sign {

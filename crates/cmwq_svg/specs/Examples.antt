@@ -91,7 +91,7 @@ six_rows_hints = said 0 (codes "1st\n") ∷ said 0 (codes "2nd\n") ∷ said 1 (c
 -- stands at 148 and 168.
 abbrev pub six_rows_svg : List ℕ
 six_rows_svg =
-    codes "<svg xmlns='http://www.w3.org/2000/svg' role='img' class='p7' width='1360' height='408' viewBox='0 0 1360 408'>\n" ++ with_id (codes "p7") STYLE.now
+    codes "<svg xmlns='http://www.w3.org/2000/svg' role='img' class='p7' width='1360' height='428' viewBox='0 0 1360 428'>\n" ++ with_id (codes "p7") STYLE.now
     ++ text_of_lines (
     codes "<path class='grid' d='M80 22V188'/>" ∷ codes "<text class='time' x='80' y='16'>0</text>" ∷ codes "<text class='time' x='80' y='204'>0</text>" ∷
     codes "<path class='grid' d='M1180 22V188'/>" ∷ codes "<text class='time' x='1180' y='16'>31</text>" ∷ codes "<text class='time' x='1180' y='204'>31</text>" ∷
@@ -141,6 +141,7 @@ six_rows_svg =
     codes "<rect class='inactive' x='80' y='299' width='20' height='14'><title>inactive</title></rect>" ∷ codes "<text class='key' x='108' y='310'>inactive</text>" ∷
     codes "<rect class='timed' x='80' y='319' width='20' height='14'><title>on a timer</title></rect>" ∷ codes "<text class='key' x='108' y='330'>on a timer</text>" ∷
     codes "<rect class='deferred' x='80' y='339' width='20' height='14'><title>deferred</title></rect>" ∷ codes "<text class='key' x='108' y='350'>deferred</text>" ∷
-    codes "<rect class='acts' x='80' y='359' width='20' height='14'><title>the actor acts</title></rect>" ∷ codes "<text class='key' x='108' y='370'>the actor acts</text>" ∷
-    codes "<rect class='gap' x='80' y='379' width='20' height='14'><title>27 ticks from 3 on: nothing changes</title></rect>" ∷
-    codes "<text class='key' x='108' y='390'>27 ticks from 3 on: nothing changes</text>" ∷ codes "</svg>" ∷ [])
+    codes "<rect class='lasts' x='80' y='359' width='20' height='14'><title>in effect</title></rect>" ∷ codes "<text class='key' x='108' y='370'>in effect</text>" ∷
+    codes "<rect class='acts' x='80' y='379' width='20' height='14'><title>the actor acts</title></rect>" ∷ codes "<text class='key' x='108' y='390'>the actor acts</text>" ∷
+    codes "<rect class='gap' x='80' y='399' width='20' height='14'><title>27 ticks from 3 on: nothing changes</title></rect>" ∷
+    codes "<text class='key' x='108' y='410'>27 ticks from 3 on: nothing changes</text>" ∷ codes "</svg>" ∷ [])

@@ -1,12 +1,13 @@
 -- What is told of a text's run, or of its settled run, and the one reason why nothing is.
-use Rattle.std.proofs.Common.{◌≡◌, ◌≢◌, ◌≤◌, ◌⊎◌, inl, inr, ℕ, List, arith, length, Bool, Option, IfSome, Result, Ok, Err, IfErr, ap, ◌∙◌, sym, subst}
+use Rattle.std.proofs.Common.{◌≡◌, ◌≢◌, ◌≤◌, ◌⊎◌, inl, inr, ℕ, List, length, Bool, Option, None, IfSome, Result, Ok, Err, IfErr, ap, ◌∙◌, sym, subst}
 use Rattle.cmwq_types.specs.Contents.{ActorContents, ScenarioContents}
 use Rattle.cmwq_types.specs.Scenario.{expand}
+use Rattle.cmwq_types.specs.declared.instr.Instr.{Instr}
 use Rattle.cmwq_types.specs.declared.limits.TheConstants.{MAX_HISTORY}
 use Rattle.cmwq_grammar.specs.Grammar.{Spells}
 use Rattle.cmwq_play.specs.Commands.{Answers, IsOutside, Writes}
 use Rattle.cmwq_play.specs.PlayTexts.{IsSpelled, IsTextFault}
-use Rattle.cmwq_play.specs.Telling.{IsToldOf, told_from}
+use Rattle.cmwq_play.specs.Framing.{IsTextBy, framed_text}
 use Rattle.cmwq_play.proofs.CommandLemmas.{answers_outside, writes_more}
 use Rattle.cmwq_play.proofs.TextLemmas.{answers_told}
 use Rattle.cmwq_settle.specs.Settled.{IsSettledIf, IsUnsettledIf}
@@ -15,9 +16,9 @@ use Rattle.cmwq_streams.specs.Sending.{IsSendError}
 use Rattle.cmwq_streams.specs.declared.error.PlayError.{PlayError}
 use Rattle.cmwq_streams.specs.declared.error.PlayError.TheVariants as errors
 use Rattle.cmwq_table.specs.State.{start}
-use Rattle.cmwq_tell.specs.RunTold.{IsToldFault, IsToldIf, IsToldRun, tell_from, tell_text}
+use Rattle.cmwq_tell.specs.RunTold.{IsToldFault, IsToldIf, IsToldRun, tell_text}
 use Rattle.cmwq_tell.specs.declared.told.Whole.{Whole}
-use Rattle.cmwq_tell.proofs.TellLemmas.{keeping, telling, whole-told}
+use Rattle.cmwq_tell.proofs.TellLemmas.{closing, keeping, opening, telling, whole-told}
 
 -- nothing but a failed sending is told behind the writing
 pub sending-other : {A : Type 0} (r : Result A PlayError) → IfErr r (λ error. IsSendError error) → r ≢ Err errors.NeverQuiet
@@ -53,12 +54,13 @@ module _ (settle : Bool) (S : ScenarioContents) where
       answers_outside (IsToldRun settle) (IsToldFault settle) input error (subst IsOutside (sym memory) tt)
 
   -- what the teller tells of the scenario that is run
-  pub writes_told : (whole : Whole) (T : ScenarioContents) → whole.position ≡ 0 → IsSettledIf settle S T → (before after : Option (List ℕ)) (failed : Bool) (r : Result (Unit {0}) PlayError)
-      → Writes (IsToldOf telling keeping whole T) before after failed r → Writes (IsToldIf settle S) before after failed r
-  writes_told whole T first settled before after failed r h =
-      writes_more (IsToldOf telling keeping whole T) (IsToldIf settle S) before after failed r (λ output is. (T, settled, (is.0, is.1, text output is.0 is.1.few is.2))) h
+  abbrev pub framed : Whole → ScenarioContents → List Instr → List ℕ
+  framed whole T instrs = framed_text telling keeping opening closing whole T (start T) instrs
+
+  pub writes_told : (whole : Whole) (T : ScenarioContents) → whole.position ≡ 0 → whole.held ≡ None → IsSettledIf settle S T → (before after : Option (List ℕ)) (failed : Bool) (r : Result (Unit {0}) PlayError)
+      → Writes (IsTextBy (framed whole) T) before after failed r → Writes (IsToldIf settle S) before after failed r
+  writes_told whole T first none settled before after failed r h =
+      writes_more (IsTextBy (framed whole) T) (IsToldIf settle S) before after failed r (λ output is. (T, settled, (is.0, is.1, text output is.0 is.1.few is.2))) h
     where
-      text : (output : List ℕ) (actor : ActorContents) → length (expand actor) ≤ MAX_HISTORY → output ≡ told_from telling keeping whole T (start T) (expand actor) → output ≡ tell_text T (expand actor)
-      text output actor few is =
-          is ∙ whole-told whole T (start T) (expand actor) (omega (arith, few, first))
-          ∙ ap (λ (k : ℕ). tell_from T k (start T) (expand actor)) first
+      text : (output : List ℕ) (actor : ActorContents) → length (expand actor) ≤ MAX_HISTORY → output ≡ framed whole T (expand actor) → output ≡ tell_text T (expand actor)
+      text output actor few is = is ∙ whole-told whole T (start T) (expand actor) first none few

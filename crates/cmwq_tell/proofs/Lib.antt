@@ -1,11 +1,13 @@
 pub mod AnswerLemmas
 pub mod Becoming
 pub mod BelowLemmas
+pub mod ComeLemmas
 pub mod CountLemmas
 pub mod EachLemmas
 pub mod KeptLines
 pub mod LawLemmas
 pub mod LineLemmas
+pub mod PartLemmas
 pub mod StampLemmas
 pub mod StartLemmas
 pub mod TellLemmas

@@ -72,3 +72,21 @@ second_cpu_told =
     text_of_lines (
     codes "# 0 queue a 1" ∷ codes "#   a listed 2" ∷ codes "# 1 queue b 1" ∷ codes "#   b inactive 2" ∷ codes "# 2 cancel a" ∷
     codes "0 cancelled" ∷ codes "#   b activated 2" ∷ codes "# 3 delay c 1 5" ∷ codes "#   c timer 5 cpu 1" ∷ [])
+
+-- a burns for a tick while its actor goes on until nothing is left; then all that the actor goes on for has come, but for a flush that there isn't and
+-- for a time that is to come
+abbrev pub come_scenario : ScenarioContents
+come_scenario =
+    scenario 100 (queue (codes "q") 1 plain_flags ∷ []) (work (codes "a") 0 (op.Burn 1 ∷ op.Finish ∷ []) ∷ [])
+    (enqueue 0 0 ∷ flush 0 ∷ times instr.Quiet 6 ∷ times instr.Quiet 1 ∷ times (instr.Until 1) 2 ∷ times (instr.Until 0) 1 ∷ times (instr.Wait 0) 3
+    ∷ times (instr.Wait 1) 2 ∷ times instr.Quiet 1 ∷ times (instr.Until 2) 3 ∷ [])
+
+-- Equal ones in a row that have come have one line, also over two lines of the actor. One alone has its own line, and so has each that is refused.
+abbrev pub come_told : List ℕ
+come_told =
+    text_of_lines (
+    codes "# 0 queue a 0" ∷ codes "#   a listed 0" ∷ codes "# 1 flush a" ∷ codes "0 flush 0" ∷ codes "# 2 quiet" ∷ codes "0 a starts" ∷
+    codes "#   a runs 0/0" ∷ codes "# 3 quiet" ∷ codes "0 a burns 1" ∷ codes "# 4 quiet" ∷ codes "#   now 1" ∷ codes "# 5 quiet" ∷
+    codes "1 a finishes" ∷ codes "# 6 to 8 quiet: nothing is pending or runs" ∷ codes "# 9 to 10 until 1: it is 1 or later" ∷ codes "# 11 until 0" ∷
+    codes "# 12 to 14 wait 0: flush 0 is done" ∷ codes "# 15 wait 1" ∷ codes "1 refused NoSuchFlush" ∷ codes "# 16 wait 1" ∷
+    codes "1 refused NoSuchFlush" ∷ codes "# 17 quiet" ∷ codes "# 18 until 2" ∷ codes "#   now 2" ∷ codes "# 19 to 20 until 2: it is 2 or later" ∷ [])

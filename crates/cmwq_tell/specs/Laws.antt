@@ -1,5 +1,5 @@
 -- What one may believe of what is told, as laws.
-use Rattle.std.specs.Prelude.{◌≡◌, ℕ, Bool, true, false, not, ◌&&◌, ◌||◌, List, [], ◌∷◌, ◌+◌, ◌++◌, length, codes, Option, Some, None, if◌then◌else◌, is_none, nat_lt, ◌==◌, slice_index_or}
+use Rattle.std.specs.Prelude.{◌≡◌, ℕ, Bool, true, false, not, ◌&&◌, ◌||◌, List, [], ◌∷◌, ◌+◌, ◌-◌, ◌++◌, length, map, replicate, codes, Option, Some, None, if◌then◌else◌, is_none, nat_lt, ◌==◌, slice_index_or}
 use Rattle.std.specs.Fmt.{decimal}
 use Rattle.std.specs.List.{filter, flat_map, join_with_byte}
 use Rattle.cmwq_types.specs.Contents.{ActorContents, ScenarioContents}
@@ -13,8 +13,8 @@ use Rattle.cmwq_types.specs.declared.reply.Refusal.{Refusal}
 use Rattle.cmwq_types.specs.declared.reply.Reply.TheVariants as reply
 use Rattle.cmwq_types.specs.declared.reply.WorkRun.{WorkRun}
 use Rattle.cmwq_table.specs.Laws.{waits_for_room, reply_to, state_after}
-use Rattle.cmwq_table.specs.State.{State, pending_at, running_at}
-use Rattle.cmwq_table.specs.Table.{is_question, run_of}
+use Rattle.cmwq_table.specs.State.{State, pending_at, running_at, start}
+use Rattle.cmwq_table.specs.Table.{is_question, run_of, table}
 use Rattle.cmwq_table.specs.declared.state.Running.{Running}
 use Rattle.cmwq_burning.specs.Burning.{finishes_work}
 use Rattle.cmwq_grammar.specs.Cutting.{lines_of}
@@ -26,13 +26,17 @@ use Rattle.cmwq_table.specs.declared.state.Pending.{Pending}
 use Rattle.cmwq_tell.specs.declared.change.Change.{Change}
 use Rattle.cmwq_tell.specs.declared.change.Change.TheVariants as change
 use Rattle.cmwq_tell.specs.Hidden.{hidden}
-use Rattle.cmwq_tell.specs.RunTold.{IsToldRun}
+use Rattle.cmwq_tell.specs.RunTold.{IsToldRun, Part, come_words, has_come, instr_line, parts_from, told_wholly}
 
 -- Refusals and questions.
 
 -- An instruction that is refused has no hidden change.
 unfoldable pub HidesNothingRefused : ScenarioContents → State → Instr → Type 0
 HidesNothingRefused S s i = (why : Refusal) → reply_to S s i ≡ reply.Refused why → hidden s (state_after S s i) (reply_to S s i) ≡ []
+
+-- One that has come has none either, nor a line of its reply: its own line is all that there is to tell.
+unfoldable pub HasItsLineAlone : ScenarioContents → State → Instr → Type 0
+HasItsLineAlone S s i = (k : ℕ) → has_come S s i ≡ true → told_wholly S k s i (table S s i) ≡ instr_line S k i
 
 -- A question has none, whatever the answer.
 unfoldable pub HidesNothingAsked : ScenarioContents → State → Instr → Type 0
@@ -206,6 +210,19 @@ abbrev pub instrs_said : ScenarioContents → ℕ → List Instr → List (List 
 instrs_said S k [] = []
 instrs_said S k (instr ∷ instrs) = instr_said S k instr ∷ instrs_said S (k + 1) instrs
 
+-- the line of instructions that stand at these positions and have come, without its end
+abbrev pub come_said : ScenarioContents → (first last : ℕ) → Instr → List ℕ
+come_said S first last instr =
+    codes "# " ++ (decimal first ++ (codes " to " ++ (decimal last ++ (codes " " ++ (join_with_byte 32 (instr_words S instr) ++ (codes ": " ++ come_words instr))))))
+
+-- the first line of a part, without its end
+abbrev pub part_said : ScenarioContents → Part → List ℕ
+part_said S part = if part.first == part.last then instr_said S part.first part.instr else come_said S part.first part.last part.instr
+
+-- the instructions of a part, each in a line of its own
+abbrev pub part_spelled : ScenarioContents → Part → List (List ℕ)
+part_spelled S part = instrs_said S part.first (replicate (part.last + 1 - part.first) part.instr)
+
 -- Without the lines that begin with `#` it is what the run prints.
 unfoldable pub KeepsTheRun : Type 0
 KeepsTheRun = (text told printed : List ℕ) → IsToldRun false (Some text) told → IsRun (Some text) printed → unmarked told ≡ printed
@@ -215,10 +232,13 @@ unfoldable pub KeepsTheSettledRun : Type 0
 KeepsTheSettledRun =
     (text told printed : List ℕ) → IsToldRun true (Some text) told → IsSettledRun (Some text) printed → unmarked told ≡ printed
 
--- The lines that begin with `#` and aren't indented are the instructions of the one actor of the scenario that is run, in order, each as
--- often as it is issued and behind its position.
-unfoldable pub ListsEachInstruction : Type 0
-ListsEachInstruction =
+-- The lines that begin with `#` and aren't indented are the first lines of the parts of the run of the one actor of the scenario that is run.
+unfoldable pub ListsEachPart : Type 0
+ListsEachPart =
     (settle : Bool) (text told : List ℕ) (S T : ScenarioContents) (actor : ActorContents) → IsToldRun settle (Some text) told
     → Spells text S → IsSettledIf settle S T → T.actors ≡ actor ∷ []
-    → filter is_instr_line (lines_of told) ≡ instrs_said T 0 (expand actor)
+    → filter is_instr_line (lines_of told) ≡ map (part_said T) (parts_from T 0 (start T) (expand actor))
+
+-- The parts are all instructions, in order, each behind its position.
+unfoldable pub PartsAreAll : Type 0
+PartsAreAll = (S : ScenarioContents) (instrs : List Instr) → flat_map (part_spelled S) (parts_from S 0 (start S) instrs) ≡ instrs_said S 0 instrs

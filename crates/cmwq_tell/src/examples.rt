@@ -1,5 +1,5 @@
 //! Worked examples of what is told, as theorems over the definitions.
-ghost use Rattle.cmwq_tell.specs.Examples.{again_scenario, again_told, outside_scenario, outside_told, second_cpu, second_cpu_told, told_of};
+ghost use Rattle.cmwq_tell.specs.Examples.{again_scenario, again_told, come_scenario, come_told, outside_scenario, outside_told, second_cpu, second_cpu_told, told_of};
 ghost use Rattle.std.specs.Prelude.{◌≡◌};
 
 /// A thaw activates the work that waited for it. What starts, also on a rescuer, ends or is given is told by the line of the run alone.
@@ -16,4 +16,9 @@ pub fn work_that_finishes_activates_the_next()
 /// Pools and CPUs are told by their numbers.
 pub fn second_cpu_is_told_by_its_number()
     ensures { told_of second_cpu ≡ second_cpu_told }
+{}
+
+/// What has come is told once, with the positions of the first and of the last instruction.
+pub fn what_has_come_is_told_once()
+    ensures { told_of come_scenario ≡ come_told }
 {}

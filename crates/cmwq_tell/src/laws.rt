@@ -2,7 +2,7 @@
 //!
 //! Each function's contract is a law. The functions do nothing: they carry the laws.
 ghost use Rattle.cmwq_table.specs.Laws.{AtEveryInstruction};
-ghost use Rattle.cmwq_tell.specs.Laws.{HidesNothingAsked, HidesNothingRefused, KeepsTheRun, KeepsTheSettledRun, ListsEachInstruction, TellsActivations, TellsEachActivation, TellsEachPlace, TellsEachStart, TellsPlaces, TellsTheTime, TellsTicks};
+ghost use Rattle.cmwq_tell.specs.Laws.{HasItsLineAlone, HidesNothingAsked, HidesNothingRefused, KeepsTheRun, KeepsTheSettledRun, ListsEachPart, PartsAreAll, TellsActivations, TellsEachActivation, TellsEachPlace, TellsEachStart, TellsPlaces, TellsTheTime, TellsTicks};
 
 use cmwq_grammar::laws::text_spells_one_scenario;
 use cmwq_table::laws::{questions_change_nothing, refused_instructions_change_nothing};
@@ -15,6 +15,12 @@ pub fn refusals_and_questions_hide_nothing()
     refused_instructions_change_nothing();
     questions_change_nothing();
 }
+
+/// An instruction that has come changes nothing and prints nothing, so that its own line is all that there is to tell.
+#[tactic(auto, using(crate::proofs::ComeLemmas::come_alone))]
+pub fn what_has_come_has_its_line_alone()
+    ensures { AtEveryInstruction HasItsLineAlone }
+{}
 
 /// As many lines `activated` stand behind an instruction as works go from inactive to listed at it, with the birth that they had; and as many
 /// works are told to be listed, inactive or on a timer as get a new birth. And as many lines `now` stand there as ticks pass.
@@ -44,10 +50,12 @@ pub fn unmarked_lines_are_the_run()
     text_spells_one_scenario();
 }
 
-/// Whoever keeps the lines that begin with `#` and aren't indented gets the actor's instructions, each `* N` written out, each behind its
-/// position.
+/// Whoever keeps the lines that begin with `#` and aren't indented gets a line for each part of the run. The parts are the actor's instructions, each
+/// `* N` written out, each behind its position.
+#[tactic(auto, using(crate::proofs::PartLemmas::parts_are_all))]
 pub fn marked_lines_are_the_instructions()
-    ensures { ListsEachInstruction }
+    ensures lines { ListsEachPart }
+    ensures all { PartsAreAll }
 {
     text_spells_one_scenario();
 }

@@ -1,7 +1,8 @@
-//! `run --tell`: a run that tells each instruction, its reply, and what it changed that the reply doesn't tell.
+//! `run --tell`: a run that tells each instruction, its reply, and what it changed that the reply doesn't tell; and once what has come.
 #![tactic(auto)]
 
 mod change;
+mod come;
 pub mod examples;
 mod hidden_changes;
 pub mod laws;

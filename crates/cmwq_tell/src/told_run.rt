@@ -6,7 +6,7 @@ ghost use Rattle.std.specs.Prelude.{◌≡◌, Err, false};
 
 use crate::told::Whole;
 use cmwq_core::Core;
-use cmwq_play::{load_and_tell, read_text};
+use cmwq_play::{load_and_frame, read_text};
 use cmwq_settle::settled_if;
 use cmwq_streams::{PlayError, Sink, Source};
 use std::alloc::Global;
@@ -14,7 +14,8 @@ use std::alloc::Global;
 /// Reads a scenario's text, settles the scenario where that is asked, issues its one actor's instructions on a machine, and writes each
 /// instruction behind `# ` and its position, in the words of the listing, then the line of its reply, if it has one, and then behind
 /// `#   ` what it changed that the reply doesn't tell: that time passed, where a work starts, and which works were placed, activated or
-/// given a timer, in this order. An instruction's position is how many were issued before it.
+/// given a timer, in this order. An instruction's position is how many were issued before it. Several equal instructions in a row whose condition has
+/// come have one line, with the first and the last of their positions and what has come.
 ///
 /// Without the lines that begin with `#` it is what `run` writes, or `run_settled`. It answers `Asm` with the text's fault exactly where
 /// the text spells no scenario, `Actors` exactly where the scenario hasn't one actor, `Full` exactly where that one has more than
@@ -36,6 +37,10 @@ pub fn run_told<R: Source, W: Sink>(
 {
     let scenario = read_text(alloc, reader)?;
     let settled = settled_if(alloc, settle, scenario)?;
-    let whole = Whole { alloc, position: 0 };
-    load_and_tell::<Core, Whole, W>(alloc, settled, whole, writer)
+    let whole = Whole {
+        alloc,
+        position: 0,
+        held: None,
+    };
+    load_and_frame::<Core, Whole, W>(alloc, settled, whole, writer)
 }

@@ -1,5 +1,5 @@
-use Rattle.cmwq_tell.proofs.KeptLines.{lists-each-instruction}
+use Rattle.cmwq_tell.proofs.KeptLines.{lists-each-part}
 use Rattle.cmwq_tell.proofs.laws.marked_lines_are_the_instructions.Goals as goal
 
-pub returns : goal.returns
-returns c = lists-each-instruction c.text_spells_one_scenario.ensures
+pub returns-clause-lines : goal.returns-clause-lines
+returns-clause-lines c = lists-each-part c.text_spells_one_scenario.ensures

@@ -1,4 +1,4 @@
-use Rattle.std.proofs.Common.{Err, ap, refl}
+use Rattle.std.proofs.Common.{Err, None, ap, refl}
 use Rattle.std.proofs.lemmas.Result.{err_from_is_err_and}
 use Rattle.cmwq_play.proofs.CommandLemmas.{err_is, keeps_same, reads_err, reads_ok, sending_no_read, sending_outside, writes_err, writes_more}
 use Rattle.cmwq_play.proofs.TextLemmas.{answers_unread, answers_well}
@@ -52,25 +52,25 @@ returns-in_err-settled-clause-never_quiet g c = λ is. keeps_same (g.W.Write.con
 
 pub returns-clause-reads : goal.returns-clause-reads
 returns-clause-reads g c =
-    reads_ok (g.R.Read.remaining c.args.reader.now) (g.R.Read.remaining c.read_text.new.reader) (g.R.Source.failed c.read_text.new.reader) c.in_ok-scenario.scenario c.load_and_tell.result
-    (sending_no_read c.load_and_tell.result c.load_and_tell.ensures.why) c.in_ok-scenario.ensures.reads
+    reads_ok (g.R.Read.remaining c.args.reader.now) (g.R.Read.remaining c.read_text.new.reader) (g.R.Source.failed c.read_text.new.reader) c.in_ok-scenario.scenario c.load_and_frame.result
+    (sending_no_read c.load_and_frame.result c.load_and_frame.ensures.why) c.in_ok-scenario.ensures.reads
 
 pub returns-clause-answers : goal.returns-clause-answers
 returns-clause-answers g c =
     let S = c.in_ok-scenario.scenario in
-    answers_well (IsToldIf c.args.settle) (IsUnsettledIf c.args.settle) S S (g.R.Read.remaining c.args.reader.now) c.load_and_tell.result
+    answers_well (IsToldIf c.args.settle) (IsUnsettledIf c.args.settle) S S (g.R.Read.remaining c.args.reader.now) c.load_and_frame.result
     (λ error told. told-well c.args.settle S c.in_ok-settled.settled c.in_ok-settled.ensures.settled error told)
-    (sending_outside c.load_and_tell.result c.load_and_tell.ensures.why) c.in_ok-scenario.ensures.only c.in_ok-scenario.ensures.answers
+    (sending_outside c.load_and_frame.result c.load_and_frame.ensures.why) c.in_ok-scenario.ensures.only c.in_ok-scenario.ensures.answers
 
 pub returns-clause-writes : goal.returns-clause-writes
 returns-clause-writes g c =
     let S = c.in_ok-scenario.scenario in
     let before = g.W.Write.contents c.args.writer.now in
-    let after = g.W.Write.contents c.load_and_tell.new.writer in
-    let failed = g.W.Sink.failed c.load_and_tell.new.writer in
-    writes_more (IsToldIf c.args.settle S) (IsToldRun c.args.settle (g.R.Read.remaining c.args.reader.now)) before after failed c.load_and_tell.result
+    let after = g.W.Write.contents c.load_and_frame.new.writer in
+    let failed = g.W.Sink.failed c.load_and_frame.new.writer in
+    writes_more (IsToldIf c.args.settle S) (IsToldRun c.args.settle (g.R.Read.remaining c.args.reader.now)) before after failed c.load_and_frame.result
     (λ output is. (S, c.in_ok-scenario.ensures.found, is))
-    (writes_told c.args.settle S (record { alloc = c.args.alloc; position = 0 }) c.in_ok-settled.settled refl c.in_ok-settled.ensures.settled before after failed c.load_and_tell.result c.load_and_tell.ensures.writes)
+    (writes_told c.args.settle S (record { alloc = c.args.alloc; position = 0; held = None }) c.in_ok-settled.settled refl refl c.in_ok-settled.ensures.settled before after failed c.load_and_frame.result c.load_and_frame.ensures.writes)
 
 pub returns-clause-never_quiet : goal.returns-clause-never_quiet
-returns-clause-never_quiet g c = λ is. elim (sending-other c.load_and_tell.result c.load_and_tell.ensures.why is) [ ]
+returns-clause-never_quiet g c = λ is. elim (sending-other c.load_and_frame.result c.load_and_frame.ensures.why is) [ ]

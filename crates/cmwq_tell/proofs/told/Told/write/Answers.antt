@@ -4,6 +4,7 @@ use Rattle.cmwq_streams.specs.Blocks.{Sends, SendsFront, kept, sink}
 use Rattle.cmwq_streams.specs.declared.error.PlayError.{PlayError}
 use Rattle.cmwq_streams.proofs.CallerLemmas.{front_more, front_then, sends_then}
 use Rattle.cmwq_table.specs.Events.{reply_line}
+use Rattle.cmwq_tell.specs.Positions.{held_text}
 use Rattle.cmwq_tell.specs.RunTold.{change_lines, instr_line}
 use Rattle.cmwq_tell.proofs.told.Told.write.Goals as goal
 
@@ -26,7 +27,7 @@ returns-in_err-write-clause-err g c =
     let contents = g.W.Write.contents in
     let a = c.args.lines.now in
     let b = c.write.new.self in
-    let x = instr_line S told.position told.instr in
+    let x = held_text S told.before ++ instr_line S told.position told.instr in
     let y = reply_line S told.time told.instr told.reply in
     let z = change_lines S told.changes.now in
     of-err c.from_residual.result (SendsFront contents a b ((x ++ y) ++ z)) (front_more (contents (sink a)) (contents (sink b)) (kept a) (x ++ y) z
@@ -39,7 +40,7 @@ returns-in_err-write_reply-clause-err g c =
     let contents = g.W.Write.contents in
     let a = c.args.lines.now in
     let b = c.write.new.self in
-    let x = instr_line S told.position told.instr in
+    let x = held_text S told.before ++ instr_line S told.position told.instr in
     let y = reply_line S told.time told.instr told.reply in
     let z = change_lines S told.changes.now in
     let d = c.write_reply.new.self in
@@ -55,7 +56,7 @@ returns-clause-ok g c =
     let contents = g.W.Write.contents in
     let a = c.args.lines.now in
     let b = c.write.new.self in
-    let x = instr_line S told.position told.instr in
+    let x = held_text S told.before ++ instr_line S told.position told.instr in
     let y = reply_line S told.time told.instr told.reply in
     let z = change_lines S told.changes.now in
     let d = c.write_reply.new.self in
@@ -75,7 +76,7 @@ returns-clause-err g c =
     let contents = g.W.Write.contents in
     let a = c.args.lines.now in
     let b = c.write.new.self in
-    let x = instr_line S told.position told.instr in
+    let x = held_text S told.before ++ instr_line S told.position told.instr in
     let y = reply_line S told.time told.instr told.reply in
     let z = change_lines S told.changes.now in
     let d = c.write_reply.new.self in
