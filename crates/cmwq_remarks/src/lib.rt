@@ -9,4 +9,5 @@ mod refusals;
 mod remarked;
 
 pub use noted::notes;
+pub use refusals::{Refusals, issue_lines};
 pub use remarked::remarks;
