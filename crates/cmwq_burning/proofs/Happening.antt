@@ -26,7 +26,8 @@ use Rattle.cmwq_table.specs.State.{State, depth_at, is_disabled, pending_at, run
 use Rattle.cmwq_table.specs.Table.{answer, cancelled, delayed, effect, fired_first, modified, next, operands, queued, refuse_unless, situation, spent_all, step_or_tick, stepped, table, target_at, unsettled, yes_or_no, is_met, next_unless}
 use Rattle.cmwq_table.specs.declared.state.Pending.{Pending}
 use Rattle.cmwq_table.specs.declared.state.Running.{Running}
-use Rattle.cmwq_burning.specs.Burning.{burn_of, burns_before, finishes_work, is_end, is_start, starts_work}
+use Rattle.cmwq_table.specs.Told.{burn_of, is_end, is_start}
+use Rattle.cmwq_burning.specs.Burning.{burns_before, finishes_work, starts_work}
 use Rattle.cmwq_burning.proofs.Bodies.{before-next}
 use Rattle.cmwq_burning.proofs.Choosing.{IsSettled, IsToStart, MoveFits, first_moving-there, next_move-fits}
 use Rattle.cmwq_burning.proofs.Keeping.{Keeps, fill-keeps, fired-keeps, itself, modified-keeps, place_after-keeps, set_max-keeps, taken_off-keeps, thaw-keeps}

@@ -16,7 +16,8 @@ use Rattle.cmwq_table.specs.Laws.{reply_to, state_after}
 use Rattle.cmwq_table.specs.Moves.{one_less}
 use Rattle.cmwq_table.specs.State.{State, is_unbound, running_at}
 use Rattle.cmwq_table.specs.declared.state.Running.{Running}
-use Rattle.cmwq_burning.specs.Burning.{finishes_work, is_end, is_start, starts_work}
+use Rattle.cmwq_table.specs.Told.{is_end, is_start}
+use Rattle.cmwq_burning.specs.Burning.{finishes_work, starts_work}
 use Rattle.cmwq_burning.proofs.Choosing.{IsSettled}
 use Rattle.cmwq_burning.proofs.Telling.{IsInPool, RunInPools}
 use Rattle.cmwq_ledger_laws.specs.Sleeps.{sleeps_before}

@@ -28,11 +28,11 @@ use Rattle.cmwq_table.specs.State.{State, depth_at, is_disabled, is_unbound, pen
 use Rattle.cmwq_table.specs.Table.{answer, cancelled, delayed, effect, fired_first, modified, next, operands, queued, situation, spent_all, step_or_tick, stepped, table, target_at, unsettled, yes_or_no, is_met, next_unless}
 use Rattle.cmwq_table.specs.declared.state.Pending.{Pending}
 use Rattle.cmwq_table.specs.declared.state.Running.{Running}
-use Rattle.cmwq_burning.specs.Burning.{is_end, is_start}
+use Rattle.cmwq_table.specs.Told.{is_end, is_start, sleep_of}
 use Rattle.cmwq_burning.proofs.Choosing.{IsSettled, MoveFits, next_move-fits}
 use Rattle.cmwq_burning.proofs.Happening.{IsSilent}
 use Rattle.cmwq_burning.proofs.Keeping.{Keeps, fill-keeps, fired-keeps, itself, modified-keeps, place_after-keeps, set_max-keeps, taken_off-keeps, thaw-keeps}
-use Rattle.cmwq_ledger_laws.specs.Sleeps.{sleep_of, sleeps_before}
+use Rattle.cmwq_ledger_laws.specs.Sleeps.{sleeps_before}
 use Rattle.cmwq_ledger_laws.proofs.SleepBodies.{before-next}
 
 -- for how many ticks it is still to sleep

@@ -30,8 +30,7 @@ use Rattle.cmwq_table.specs.Table.{answer, cancelled, delayed, effect, fired_fir
 use Rattle.cmwq_table.specs.declared.state.Pending.{Pending}
 use Rattle.cmwq_table.specs.declared.state.Running.{Running}
 use Rattle.cmwq_burning.proofs.Choosing.{MoveFits, next_move-fits}
-use Rattle.cmwq_ledger.specs.Ledger.{cancelled_by, started_by}
-use Rattle.cmwq_ledger_laws.specs.Requests.{requested_by}
+use Rattle.cmwq_table.specs.Told.{cancelled_by, requested_by, started_by}
 
 -- Who is pending in the one state, and who in the other.
 

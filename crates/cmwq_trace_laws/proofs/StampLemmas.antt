@@ -26,9 +26,8 @@ use Rattle.cmwq_table.specs.State.{State, depth_at, is_disabled, pending_at, poo
 use Rattle.cmwq_table.specs.Counts.{burns, first_due, first_inactive, free_worker, has_room, is_deferred, is_done, is_busy, is_rescuer}
 use Rattle.cmwq_table.specs.Moves.{advance, become_idle, begin_again, begun, burned, carry_out, come_to_end, deferred, enlist, fill, fill_one, fill_times, filled, first_moving, moved, moved_work, next_move, onward, place, queue_from_body, rescued, retire, started, with_depth, with_running, woken, delay_from_body, mod_from_body, fill_from, place_after, taken_off, with_pending}
 use Rattle.cmwq_table.specs.Table.{answer, cancelled, delayed, disabled, effect, fired_first, modified, next, queued, refusal, step_or_tick, stepped, table, target_at, yes_or_no, is_met, next_unless}
-use Rattle.cmwq_burning.specs.Burning.{is_start}
+use Rattle.cmwq_table.specs.Told.{is_start, tells_of}
 use Rattle.cmwq_events.proofs.CallerLemmas.{fill-runs, fill_freezable-runs, fill_pools-runs, fired-runs, place_after-runs, taken_off-runs}
-use Rattle.cmwq_trace_laws.specs.EventLaws.{tells_of}
 
 abbrev pub is_again : Event → Bool
 is_again event.FinishesAndStarts = true
