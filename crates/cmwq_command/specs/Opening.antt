@@ -16,9 +16,9 @@ opened_bytes remaining (Input bytes) = Some bytes.now
 abbrev pub input_bytes : (input : Option (List ℕ)) → (path : List ℕ) → Option (List ℕ)
 input_bytes input path = if is_input path then input else None
 
--- the path by which the system tells what a file is: that of standard input is `/dev/stdin`
+-- the path by which the system tells what a file is: that of standard input is `/proc/self/fd/0`
 abbrev pub looked_at : (path : List ℕ) → List ℕ
-looked_at path = if is_input path then codes "/dev/stdin" else path
+looked_at path = if is_input path then codes "/proc/self/fd/0" else path
 
 -- whether a file that is read for the request is standard input
 abbrev pub names_input : Request → Bool

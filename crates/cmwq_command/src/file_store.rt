@@ -166,7 +166,7 @@ fn looked_at(path: &str) -> &str
     ensures { result.now ≡ looked_at path.now }
 {
     if path == STANDARD_INPUT {
-        "/dev/stdin"
+        "/proc/self/fd/0"
     } else {
         path
     }
