@@ -23,7 +23,7 @@ use Rattle.cmwq_asm.specs.declared.fault.AsmError.TheVariants as texts
 use Rattle.cmwq_image.specs.declared.error.ImageError.{ImageError}
 use Rattle.cmwq_image.specs.declared.error.ImageError.TheVariants as images
 use Rattle.cmwq_request.specs.declared.request.Request.{Request}
-use Rattle.cmwq_request.specs.declared.request.Request.TheVariants.{New, Do, Sweep, TraceData, Asm, Debug, Play, Explore}
+use Rattle.cmwq_request.specs.declared.request.Request.TheVariants.{New, Do, Strict, Sweep, TraceData, Asm, Debug, Play, Explore}
 use Rattle.cmwq_streams.specs.declared.error.PlayError.{PlayError}
 use Rattle.cmwq_streams.specs.declared.error.PlayError.TheVariants as errors
 use Rattle.cmwq_settle.specs.Settled.{IsSettledIf, IsUnsettledIf}
@@ -49,6 +49,7 @@ trouble_words trouble.NoFile = codes ": no such file"
 trouble_words trouble.NoFolder = codes ": no such folder"
 trouble_words trouble.IsThere = codes " is there already; new doesn't overwrite"
 trouble_words trouble.IsInput = codes " is the scenario's own text; asm doesn't overwrite it"
+trouble_words trouble.IsTraceInput = codes " is the scenario's own text; trace doesn't overwrite it"
 trouble_words trouble.IsFolder = codes " is a folder"
 trouble_words trouble.Denied = codes ": permission denied"
 trouble_words trouble.Unreadable = codes ": it can't be read"
@@ -65,6 +66,7 @@ trouble_lines None why = []
 -- the file that a command reads, and the one that it makes
 abbrev pub file_read : Request → Option (List ℕ)
 file_read (Do file task) = Some file.now
+file_read (Strict file kind) = Some file.now
 file_read (Sweep file sweep) = Some file.now
 file_read (TraceData file out) = Some file.now
 file_read (Asm file out) = Some file.now
@@ -107,6 +109,7 @@ abbrev pub full_words : Request → List ℕ
 full_words (Play file capacity) = line (codes "--capacity says how many instructions fit: 4096 at most")
 full_words (Explore file exploration) = line (codes "the actors have more than 4096 lines in all, each cancel_sync being three")
 full_words (Do file task) = actor_words (is_settled task)
+full_words (Strict file kind) = actor_words (is_settled (Run kind))
 full_words (Debug file settle) = actor_words settle
 full_words request = actor_words false
 

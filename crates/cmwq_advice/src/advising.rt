@@ -61,6 +61,7 @@ pub fn file_read<'a>(request: &Request<'a>) -> Option<&'a str>
 {
     match request {
         Request::Do { file, .. }
+        | Request::Strict { file, .. }
         | Request::Sweep { file, .. }
         | Request::TraceData { file, .. }
         | Request::Asm { file, .. }

@@ -49,6 +49,7 @@ fn full_words(request: &Request<'_>) -> &'static str
             "  the actors have more than 4096 lines in all, each cancel_sync being three\n"
         }
         Request::Do { file: _, task } => actor_words(is_settled(task)),
+        Request::Strict { file: _, kind } => actor_words(is_settled(&Task::Run(*kind))),
         Request::Debug { file: _, settle } => actor_words(*settle),
         _ => actor_words(false),
     }

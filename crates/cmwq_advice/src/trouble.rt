@@ -16,6 +16,8 @@ pub enum Trouble {
     IsThere,
     /// The image would be written over the scenario's own text.
     IsInput,
+    /// The trace would be written over the scenario's own text.
+    IsTraceInput,
     /// It is a folder.
     IsFolder,
     /// Whoever runs the program may not do that.
@@ -36,6 +38,7 @@ impl Trouble {
             Trouble::NoFolder => ": no such folder",
             Trouble::IsThere => " is there already; new doesn't overwrite",
             Trouble::IsInput => " is the scenario's own text; asm doesn't overwrite it",
+            Trouble::IsTraceInput => " is the scenario's own text; trace doesn't overwrite it",
             Trouble::IsFolder => " is a folder",
             Trouble::Denied => ": permission denied",
             Trouble::Unreadable => ": it can't be read",

@@ -8,8 +8,9 @@ use Rattle.cmwq_command.specs.Carried.{Store}
 use Rattle.cmwq_remarks.specs.Remarks.{AreRemarks}
 use Rattle.cmwq_request.specs.Request.{request_words}
 use Rattle.cmwq_request.specs.declared.request.Request.{Request}
-use Rattle.cmwq_request.specs.declared.request.Request.TheVariants.{Do}
+use Rattle.cmwq_request.specs.declared.request.Request.TheVariants.{Do, Strict}
 use Rattle.cmwq_tasks.specs.declared.task.Task.{Task}
+use Rattle.cmwq_tasks.specs.declared.task.Task.TheVariants.{Run}
 use Rattle.cmwq_streams.specs.declared.error.PlayError.{PlayError}
 use Rattle.cmwq_streams.specs.declared.error.PlayError.TheVariants as errors
 use Rattle.cmwq_verdict.specs.declared.looks.Look.{Look}
@@ -61,6 +62,7 @@ AreRemarksOnFile store task file told = (text : Option (List ℕ)) × IsTextIn s
 
 abbrev pub AreRemarksOnRequest : Store → Request → (told : List ℕ) → Type 0
 AreRemarksOnRequest store (Do file task) told = AreRemarksOnFile store task file.now told
+AreRemarksOnRequest store (Strict file kind) told = AreRemarksOnFile store (Run kind) file.now told
 AreRemarksOnRequest store request told = told ≡ []
 
 abbrev pub AreRemarksOnWords : Store → List Text → (told : List ℕ) → Type 0

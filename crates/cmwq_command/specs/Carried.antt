@@ -8,8 +8,9 @@ use Rattle.cmwq_image.specs.Image.{image}
 use Rattle.cmwq_image.specs.declared.version.TheConstants.{VERSION}
 use Rattle.cmwq_actors.specs.Interleaving.{Interleaves, scripts_of}
 use Rattle.cmwq_command.specs.ExploredFiles.{HasExploredFile}
+use Rattle.cmwq_command.specs.StrictRuns.{HasRunStrictly}
 use Rattle.cmwq_command.specs.SweptFiles.{HasSweptFile}
-use Rattle.cmwq_command.specs.Tasks.{IsGoalOf, IsTaskFault, IsWrittenBy}
+pub use Rattle.cmwq_command.specs.Tasks.{HasDone}
 use Rattle.cmwq_command_line.specs.CommandLine.{version_line}
 use Rattle.cmwq_kernel_trace.specs.DataTrace.{dat_of_run}
 use Rattle.cmwq_debug_lines.specs.declared.manner.Manner.{Manner}
@@ -26,7 +27,7 @@ use Rattle.cmwq_play.specs.PlayTexts.{IsFaultOf, IsOutput, IsRunFault, IsTextFau
 use Rattle.clap.specs.Words.{Text}
 use Rattle.cmwq_request.specs.Request.{request_words}
 use Rattle.cmwq_request.specs.declared.request.Request.{Request}
-use Rattle.cmwq_request.specs.declared.request.Request.TheVariants.{New, Do, Sweep, TraceData, Asm, Debug, Play, Explore, Check, Language, Version}
+use Rattle.cmwq_request.specs.declared.request.Request.TheVariants.{New, Do, Strict, Sweep, TraceData, Asm, Debug, Play, Explore, Check, Language, Version}
 use Rattle.cmwq_settle.specs.Settled.{IsSettledIf, IsUnsettledIf}
 use Rattle.cmwq_streams.specs.Sending.{IsSendError}
 use Rattle.cmwq_streams.specs.declared.error.PlayError.{PlayError}
@@ -54,11 +55,6 @@ HasStarted before after failed result = OnOk result (HasWrittenFirst before afte
 abbrev pub HasToldLanguage : (before after : Option (List ℕ)) → (failed : Bool) → Result (Unit {0}) PlayError → Type 0
 HasToldLanguage before after failed result =
     OnOk result (Appends before after language_page) × IfErr result (λ error. IsSendError error) × TellsFailure failed result
-
--- the task was carried out on an input that has these bytes
-abbrev pub HasDone : Task → List ℕ → (before after : Option (List ℕ)) → (failed : Bool) → Result (Unit {0}) PlayError → Type 0
-HasDone task bytes before after failed result =
-    Answers (IsGoalOf task) (IsTaskFault task) (Some bytes) result × Writes (IsWrittenBy task (Some bytes)) before after failed result
 
 -- the bytes spell a scenario of which this holds
 abbrev pub OfSpelled : List ℕ → (ScenarioContents → Type 0) → Type 0
@@ -138,6 +134,8 @@ module _ (store : Store) (look : Look) (manner : Manner) (logic : List ℕ) (inp
   HasCarriedOut (Do file task) result =
       (errors_now ≡ errors)
       × Graded result (λ outcome. IfSome (store file.now) (λ bytes. UnlessUnopened output output_now outcome (HasDone task bytes output output_now failed outcome)))
+  HasCarriedOut (Strict file kind) result =
+      IfSome (store file.now) (λ bytes. HasRunStrictly kind bytes output output_now failed errors errors_now result)
   HasCarriedOut (Sweep file sweep) result =
       IfSome (store file.now) (λ bytes. HasSweptFile sweep bytes output output_now failed errors errors_now result)
   HasCarriedOut (TraceData file out) result =

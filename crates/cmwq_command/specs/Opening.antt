@@ -1,9 +1,9 @@
 -- What is known of a file that is opened.
-use Rattle.std.specs.Prelude.{ℕ, Bool, false, List, Option, None, Some, if◌then◌else◌}
+use Rattle.std.specs.Prelude.{ℕ, Bool, false, List, Option, None, Some, codes, if◌then◌else◌}
 use Rattle.std.specs.List.{list_any}
 pub use Rattle.cmwq_request.specs.Request.{is_input}
 use Rattle.cmwq_request.specs.declared.request.Request.{Request}
-use Rattle.cmwq_request.specs.declared.request.Request.TheVariants.{Do, Sweep, TraceData, Asm, Play, Explore, Check}
+use Rattle.cmwq_request.specs.declared.request.Request.TheVariants.{Do, Strict, Sweep, TraceData, Asm, Play, Explore, Check}
 use Rattle.cmwq_command.specs.declared.file_store.Opened.{Opened}
 use Rattle.cmwq_command.specs.declared.file_store.Opened.TheVariants.{File, Input}
 
@@ -16,9 +16,14 @@ opened_bytes remaining (Input bytes) = Some bytes.now
 abbrev pub input_bytes : (input : Option (List ℕ)) → (path : List ℕ) → Option (List ℕ)
 input_bytes input path = if is_input path then input else None
 
+-- the path by which the system tells what a file is: that of standard input is `/proc/self/fd/0`
+abbrev pub looked_at : (path : List ℕ) → List ℕ
+looked_at path = if is_input path then codes "/proc/self/fd/0" else path
+
 -- whether a file that is read for the request is standard input
 abbrev pub names_input : Request → Bool
 names_input (Do file task) = is_input file.now
+names_input (Strict file kind) = is_input file.now
 names_input (Sweep file sweep) = is_input file.now
 names_input (TraceData file out) = is_input file.now
 names_input (Asm file out) = is_input file.now

@@ -1,11 +1,12 @@
 -- What each task comes to: its goal, the faults that it tells, and what it writes.
-use Rattle.std.specs.Prelude.{ℕ, true, false, List, Option}
+use Rattle.std.specs.Prelude.{ℕ, Bool, true, false, List, Option, Some, Result}
 use Rattle.cmwq_types.specs.Listing.{listing}
 use Rattle.cmwq_tasks.specs.declared.task.Task.{Task}
 use Rattle.cmwq_reports.specs.declared.report.TraceForm.TheVariants as form
 use Rattle.cmwq_tasks.specs.declared.task.Task.TheVariants.{Run, Settle, List as Listing, Show, Draw, Why, Times as Timed, Trace}
 use Rattle.cmwq_draw.specs.Drawn.{IsDrawFault, IsDrawnText}
 use Rattle.cmwq_explain.specs.Explained.{AreChanges, IsAnswer, IsUnanswered}
+use Rattle.cmwq_play.specs.Commands.{Answers, Writes}
 use Rattle.cmwq_play.specs.Framing.{IsTextOfRun}
 use Rattle.cmwq_kernel_trace.specs.KernelText.{ftrace_text}
 use Rattle.cmwq_trace.specs.Lines.{objects_text}
@@ -63,3 +64,8 @@ IsWrittenBy (Timed asked) = IsTimedRun asked
 IsWrittenBy (Trace form.Json) = IsTextOfRun json_text
 IsWrittenBy (Trace form.Lines) = IsTextOfRun objects_text
 IsWrittenBy (Trace form.Text) = IsTextOfRun ftrace_text
+
+-- the task was carried out on an input that has these bytes
+abbrev pub HasDone : Task → List ℕ → (before after : Option (List ℕ)) → (failed : Bool) → Result (Unit {0}) PlayError → Type 0
+HasDone task bytes before after failed result =
+    Answers (IsGoalOf task) (IsTaskFault task) (Some bytes) result × Writes (IsWrittenBy task (Some bytes)) before after failed result

@@ -129,6 +129,7 @@ fn remarks_for<F: FileStore>(
 {
     match request {
         Request::Do { file, task } => remarks_on_file(alloc, files, *task, file),
+        Request::Strict { file, kind } => remarks_on_file(alloc, files, Task::Run(*kind), file),
         _ => Ok(Vec::new(alloc)),
     }
 }
@@ -224,17 +225,25 @@ fn trouble_with_making<F: FileStore>(files: &F, request: &Request<'_>) -> Option
 {
     match request {
         Request::New { file } => Some(files.trouble_with_making((*file)?, true)),
-        Request::Asm { file, out } | Request::TraceData { file, out } => {
-            Some(trouble_with_output(files, file, out))
+        Request::Asm { file, out } => {
+            Some(trouble_with_output(files, file, out, Trouble::IsInput))
+        }
+        Request::TraceData { file, out } => {
+            Some(trouble_with_output(files, file, out, Trouble::IsTraceInput))
         }
         _ => None,
     }
 }
 
-/// Why the file that is made of another one can't be.
-fn trouble_with_output<F: FileStore>(files: &F, file: &str, out: &str) -> Trouble {
+/// Returns why the file that is made of another one can't be: `overwrites` if both are one file.
+fn trouble_with_output<F: FileStore>(
+    files: &F,
+    file: &str,
+    out: &str,
+    overwrites: Trouble,
+) -> Trouble {
     if files.is_one_file(file, out) {
-        return Trouble::IsInput;
+        return overwrites;
     }
     files.trouble_with_making(out, false)
 }

@@ -16,6 +16,7 @@ ghost use Rattle.std.specs.Prelude.{◌≡◌, ◌∷◌, [], List, IfErr, IfOk,
 
 use crate::exploring::explore_file;
 use crate::file_store::FileStore;
+use crate::strict::run_strictly;
 use crate::sweeping::sweep_file;
 use crate::tasks_done::do_task;
 use cmwq_actors::OpenGate;
@@ -106,6 +107,9 @@ where
     match request {
         Request::New { file } => good(new(files, output, file)),
         Request::Do { file, task } => good(do_on_file(rt.alloc(), files, output, file, task)),
+        Request::Strict { file, kind } => {
+            run_strictly(rt.alloc(), files, output, errors, file, kind)
+        }
         Request::Sweep { file, sweep } => {
             sweep_file(rt.alloc(), files, output, errors, file, sweep)
         }

@@ -1,4 +1,5 @@
 //! Where files are opened and made.
+ghost use Rattle.cmwq_command.specs.Opening.{looked_at};
 ghost use Rattle.std.specs.Prelude.{◌≡◌, ℕ, IfErr, IfOk, IfSome, List, None, Option, Some, false, option_map};
 
 use cmwq_advice::Trouble;
@@ -35,7 +36,8 @@ pub trait FileStore {
     fn kept(&self, path: &str) -> Option<&[u8]>
         ensures { option_map (λ bytes. bytes.now) result ≡ bytes self.now path.now };
 
-    /// Whether both paths are those of one regular file that is there. Of what can't be looked at it answers no.
+    /// Returns whether both paths are those of one regular file that is there, e.g. `-` and a file that standard input is read from. It
+    /// returns false for what can't be looked at.
     fn is_one_file(&self, one: &str, other: &str) -> bool;
 
     /// Why the file of this path can't be read, as far as can be seen.
@@ -116,10 +118,10 @@ impl<'a, R: Files> FileStore for Disk<'a, R> {
     }
 
     fn is_one_file(&self, one: &str, other: &str) -> bool {
-        if one == STANDARD_INPUT {
-            return false;
-        }
-        match (metadata(self.rt, one), metadata(self.rt, other)) {
+        match (
+            metadata(self.rt, looked_at(one)),
+            metadata(self.rt, looked_at(other)),
+        ) {
             (Ok(one), Ok(other)) => {
                 one.is_file() && one.dev() == other.dev() && one.ino() == other.ino()
             }
@@ -156,6 +158,17 @@ impl<'a, R: Files> FileStore for Disk<'a, R> {
     fn make_new(&self, path: &str) -> Result<Marked<R::File>, PlayError> {
         let file = File::create_new(self.rt, path).map_err(|_| PlayError::Write)?;
         Ok(Marked::new(file))
+    }
+}
+
+/// Returns the path by which the system tells what the file is.
+fn looked_at(path: &str) -> &str
+    ensures { result.now ≡ looked_at path.now }
+{
+    if path == STANDARD_INPUT {
+        "/proc/self/fd/0"
+    } else {
+        path
     }
 }
 

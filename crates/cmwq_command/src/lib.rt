@@ -6,6 +6,7 @@ mod carrying;
 mod exploring;
 mod file_store;
 mod standard_input;
+mod strict;
 mod sweeping;
 mod tasks_done;
 mod undone;

@@ -30,6 +30,7 @@ fn names_input(request: &Request<'_>) -> bool
 {
     match request {
         Request::Do { file, .. }
+        | Request::Strict { file, .. }
         | Request::Sweep { file, .. }
         | Request::TraceData { file, .. }
         | Request::Asm { file, .. }

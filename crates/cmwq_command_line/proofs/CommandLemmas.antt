@@ -1,10 +1,10 @@
 -- A command more, and an argument more.
-use Rattle.std.proofs.Common.{◌≡◌, ◌∙◌, ◌||◌, Bool, Err, IfOk, Ok, Result, ap, ℕ}
+use Rattle.std.proofs.Common.{◌≡◌, ◌∙◌, ◌||◌, Bool, Err, IfOk, None, Ok, Option, Result, Some, ap, subst, ℕ}
 use Rattle.std.proofs.lemmas.Result.{IfOk-weaker}
 use Rattle.clap.specs.Words.{AddsArg, App, Rule, Text, app_of, rule_of, shape_of, with_rule, with_subcommand}
 use Rattle.clap.specs.declared.builder.arg.Arg.{Arg}
 use Rattle.clap.specs.declared.builder.command.Command.{Command}
-use Rattle.cmwq_command_line.specs.CommandLine.{IsArgument, IsCommand, WithMore, several_rule}
+use Rattle.cmwq_command_line.specs.CommandLine.{IsArgument, IsCommand, IsMisusable, WithMore, several_rule}
 
 pub joined : {E : Type 0} (old new : Command) (sub : Result Command E) (before more : App) → WithMore old sub new → app_of old ≡ before
     → IfOk sub (IsCommand more) → app_of new ≡ with_subcommand before more.top
@@ -50,3 +50,13 @@ pub given_last : {E : Type 0} (old : Command) (arg : Arg) (before : App) (rule :
     → IsCommand before old → IsArgument rule arg → IfOk result (λ new. IsCommand (with_rule before rule) new)
 given_last old arg before rule result added command argument =
     IfOk-weaker result (λ new. AddsArg old arg new) (λ new. IsCommand (with_rule before rule) new) (λ new adds. given old new arg before rule adds command argument) added
+
+-- a command that was found is the one of its name
+pub named : {E : Type 0} (known : Option App) (found : Option (Result Command E)) (made : Result Command E) (command : Command) → IsMisusable known found
+    → found ≡ Some made → made ≡ Ok command → Some (app_of command) ≡ known
+named {E} (Some app) (Some one) made command is there ok =
+    let same : one ≡ Ok command = cc in
+    ap Some (subst (λ (r : Result Command E). IfOk r (IsCommand app)) same is).0
+named (Some app) None made command is there ok = elim is [ ]
+named None (Some one) made command is there ok = elim is [ ]
+named None None made command is there ok = cc

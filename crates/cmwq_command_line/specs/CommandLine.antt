@@ -1,5 +1,6 @@
 -- The command line: its commands, what each takes, and the line of its version.
-use Rattle.std.specs.Prelude.{◌≡◌, ℕ, List, [], ◌∷◌, ◌++◌, Err, Ok, Result, false, true, codes, Some}
+use Rattle.std.specs.Prelude.{◌≡◌, ℕ, List, [], ◌∷◌, ◌++◌, Err, Ok, IfOk, Option, IsSomeAnd, None, Result, false, true, codes, Some, if◌then◌else◌}
+use Rattle.std.specs.Str.{bytes_eq}
 use Rattle.clap.specs.Words.{AddsSubcommand, App, Rule, Text, app_of, new_app, new_rule, rule_of, with_rule, with_subcommand}
 use Rattle.clap.specs.declared.builder.arg.Arg.{Arg}
 use Rattle.clap.specs.declared.builder.command.Command.{Command}
@@ -44,9 +45,12 @@ command_on name id = with_rule (new_app name) (required_rule id)
 abbrev pub new_command : App
 new_command = with_rule (new_app (codes "new")) (new_rule (codes "FILE"))
 
--- `run [--settle] [--tell] FILE`, `list FILE`, `asm FILE OUT`, `show IMAGE`, `debug [--settle] FILE` and `play FILE --capacity N`
+-- `run [--settle] [--tell] [--strict] FILE`, `list FILE`, `asm FILE OUT`, `show IMAGE`, `debug [--settle] FILE` and `play FILE --capacity N`
 abbrev pub run_command : App
-run_command = with_rule (with_rule (command_on (codes "run") (codes "FILE")) (flag_rule (codes "settle"))) (flag_rule (codes "tell"))
+run_command =
+    with_rule
+    (with_rule (with_rule (command_on (codes "run") (codes "FILE")) (flag_rule (codes "settle"))) (flag_rule (codes "tell")))
+    (flag_rule (codes "strict"))
 
 abbrev pub list_command : App
 list_command = command_on (codes "list") (codes "FILE")
@@ -155,6 +159,28 @@ twelve_commands = with_commands eight_commands (settle_command ∷ draw_command 
 
 abbrev pub command_line : App
 command_line = with_commands twelve_commands (times_command ∷ trace_command ∷ [])
+
+-- the command of this name, of those that can be given words which ask for nothing
+abbrev pub misusable : Text → Option App
+misusable name =
+    if bytes_eq name (codes "debug") then Some debug_command
+    else if bytes_eq name (codes "play") then Some play_command
+    else if bytes_eq name (codes "draw") then Some draw_command
+    else if bytes_eq name (codes "why") then Some why_command
+    else if bytes_eq name (codes "explore") then Some explore_command
+    else if bytes_eq name (codes "times") then Some times_command
+    else if bytes_eq name (codes "trace") then Some trace_command
+    else None
+
+-- this is the command, if there was memory for it
+abbrev pub IsMisusable : {E : Type 0} → Option App → Option (Result Command E) → Type 0
+IsMisusable (Some app) (Some command) = IfOk command (IsCommand app)
+IsMisusable None None = Unit {0}
+IsMisusable app command = ⊥
+
+-- its usage begins so: `cmwq NAME`
+abbrev pub IsCalled : (name : Text) → Command → Type 0
+IsCalled name command = IsSomeAnd (fields_of command).bin_name (λ call. call.bytes.items ≡ codes "cmwq " ++ name)
 
 -- the line of the program's version, and of the logic that its proofs rest on
 abbrev pub version_line : (logic : List ℕ) → List ℕ

@@ -1,8 +1,8 @@
 //! The program's commands, and the words that they take.
 
 ghost use Rattle.clap.specs.Words.{app_of, new_app, new_rule};
-ghost use Rattle.cmwq_command_line.specs.CommandLine.{IsArgument, IsCommand, WithMore, asking_command, asm_command, bare_program, check_command, command_line, command_on, debug_command, draw_command, eight_commands, explore_command, flag_rule, four_commands, list_command, never_command, new_command, play_command, required_rule, run_command, several_rule, settle_command, show_command, spanned_command, times_command, trace_command, twelve_commands, value_rule, why_command};
-ghost use Rattle.std.specs.Prelude.{◌≡◌, ◌≤◌, IfOk, codes};
+ghost use Rattle.cmwq_command_line.specs.CommandLine.{IsArgument, IsCalled, IsCommand, IsMisusable, WithMore, asking_command, asm_command, bare_program, check_command, command_line, command_on, debug_command, draw_command, eight_commands, explore_command, flag_rule, four_commands, list_command, misusable, never_command, new_command, play_command, required_rule, run_command, several_rule, settle_command, show_command, spanned_command, times_command, trace_command, twelve_commands, value_rule, why_command};
+ghost use Rattle.std.specs.Prelude.{◌≡◌, ◌≤◌, IfOk, IfSome, codes, option_map};
 
 use crate::help;
 use clap::{Arg, ArgAction, Command};
@@ -15,6 +15,44 @@ pub fn command_line<'a>(alloc: Global) -> Result<Command<'a>, AllocError>
 {
     let program = with(twelve_commands(alloc)?, times_command(alloc))?;
     with(program, trace_command(alloc))
+}
+
+/// The command of this name by itself, whose usage says how the program is called for it, as `cmwq draw`; none if each of the command's
+/// words asks for something. The error is want of memory.
+pub fn called_command<'a>(alloc: Global, name: &str) -> Result<Option<Command<'a>>, AllocError>
+    ensures command { IfOk result (λ found. option_map (λ command. app_of command) found ≡ misusable name.now) }
+    ensures called { IfOk result (λ found. IfSome found (λ command. IsCalled name.now command)) }
+{
+    match misusable(alloc, name) {
+        Some(command) => Ok(Some(called(alloc, command?, name)?)),
+        None => Ok(None),
+    }
+}
+
+/// The command of this name, of those that can be given words which ask for nothing.
+fn misusable<'a>(alloc: Global, name: &str) -> Option<Result<Command<'a>, AllocError>>
+    ensures { IsMisusable (misusable name.now) result }
+{
+    match name {
+        "debug" => Some(debug_command(alloc)),
+        "play" => Some(play_command(alloc)),
+        "draw" => Some(draw_command(alloc)),
+        "why" => Some(why_command(alloc)),
+        "explore" => Some(explore_command(alloc)),
+        "times" => Some(times_command(alloc)),
+        "trace" => Some(trace_command(alloc)),
+        _ => None,
+    }
+}
+
+/// The command, whose usage says how the program is called for it.
+fn called<'a>(alloc: Global, command: Command<'a>, name: &str) -> Result<Command<'a>, AllocError>
+    ensures command { IfOk result (λ r. app_of r ≡ app_of command.entry) }
+    ensures called { IfOk result (λ r. IsCalled name.now r) }
+{
+    let mut call = String::from_str(alloc, "cmwq ")?;
+    call.push_str(name)?;
+    command.bin_name(&call)
 }
 
 /// The program with its first twelve commands.
@@ -103,6 +141,11 @@ fn run_command<'a>(alloc: Global) -> Result<Command<'a>, AllocError>
         alloc,
         "tell",
         "Writes each instruction, and what it changes unseen, in lines that begin with #",
+    ))?
+    .arg(flag(
+        alloc,
+        "strict",
+        "Ends with status 1 if an instruction of the actor was refused, and says on standard error how many were",
     ))
 }
 

@@ -56,12 +56,14 @@ Prints a line for each thing that happens: the time, the work, and what it did. 
 actor's instructions, until no work is pending and none runs. With --tell each instruction stands before its line, behind its position,
 and behind it what it changed unseen: works placed or activated, timers set, the workers of those that start, time passed. These lines
 begin with #. Equal instructions in a row that have nothing left to go on for have one line, with the first and the last position.
-Where both are given and the machine never is quiet, nothing is printed.
+Where both are given and the machine never is quiet, nothing is printed. With --strict the same is printed. If an instruction
+of the actor was refused, the command then ends with status 1, and a line on standard error says how many were.
 
 Exit status:
-  0  every instruction was carried out, or refused in a line of its own
+  0  every instruction was carried out, or, without --strict, refused in a line of its own
   1  `line 6: Duplicate`: the text's first fault; `actors`: there isn't exactly one actor; `never quiet`: with --settle, the
-     scenario's steps or 1,048,576 instructions were over before the machine was quiet; what was printed is the run up to there
+     scenario's steps or 1,048,576 instructions were over before the machine was quiet; what was printed is the run up to there;
+     `refused 3 instructions, first at position 4`: with --strict, so many instructions were refused; all was printed
   2  the command line is wrong
   3  `read`: FILE can't be read; `write`: the output can't be written
   4  `full`: more than 1,048,576 instructions, or with both options as for settle; `no memory`
@@ -69,7 +71,8 @@ Exit status:
 Examples:
   cmwq run first.cmwq
   cmwq run --settle scenarios/activation_order.cmwq
-  cmwq run --tell scenarios/max_active_1.cmwq";
+  cmwq run --tell scenarios/max_active_1.cmwq
+  cmwq run --strict first.cmwq";
 
 /// What follows the help of `settle`.
 pub const SETTLE: &str = "\

@@ -10,4 +10,5 @@ mod remarked;
 mod traps;
 
 pub use noted::notes;
+pub use refusals::{Refusals, issue_lines};
 pub use remarked::remarks;

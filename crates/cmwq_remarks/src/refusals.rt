@@ -12,17 +12,17 @@ use cmwq_types::{Line, Refusal, Reply};
 
 /// The refused instructions of a run.
 #[derive(Clone, Copy, Debug)]
-pub(crate) struct Refusals {
+pub struct Refusals {
     /// How many there are.
-    pub(crate) count: u32,
-    /// How many of these are refused since the steps are spent.
-    pub(crate) spent: u32,
+    pub count: u32,
+    /// How many of these are refused because the steps are spent.
+    pub spent: u32,
     /// The place of the first one among all instructions, from 0.
-    pub(crate) first: Option<u32>,
+    pub first: Option<u32>,
 }
 
 /// Issues the lines' instructions on the machine, and gives those that are refused.
-pub(crate) fn issue_lines<M: Machine>(machine: &mut M, lines: &[Line]) -> Refusals
+pub fn issue_lines<M: Machine>(machine: &mut M, lines: &[Line]) -> Refusals
     requires { length (expand_lines lines.now) ≤ MAX_HISTORY }
     ensures count { result.count ≡ refusal_count (replies_from (M.loaded machine.old) (M.state machine.old) (expand_lines lines.now)) }
     ensures spent { result.spent ≡ spent_count (replies_from (M.loaded machine.old) (M.state machine.old) (expand_lines lines.now)) }

@@ -25,7 +25,7 @@ use Rattle.cmwq_request.specs.declared.request.Request.{Request}
 use Rattle.cmwq_tasks.specs.declared.task.RunKind.{RunKind}
 use Rattle.cmwq_tasks.specs.declared.task.RunKind.TheVariants.{Plain, Settled, Told, ToldSettled}
 use Rattle.cmwq_command_line.specs.CommandLine.{command_line}
-use Rattle.cmwq_request.specs.Request.{HasCapacity, IsCapacity, IsFileWord, IsPlainWord, IsRead, IsRequestOf, IsVersionWord, asked_in, asked_of, asked_of_run, kind_from, kind_of_run, run_arguments, words_to_run}
+use Rattle.cmwq_request.specs.Request.{HasCapacity, IsCapacity, IsFileWord, IsPlainWord, IsRead, IsRequestOf, IsVersionWord, asked_in, asked_of, asked_of_run, kind_from, kind_of_run, run_arguments, strict_arguments, words_to_run}
 
 simple_line : is_simple command_line ≡ true
 unfolding clap_on_literals
@@ -72,6 +72,26 @@ plain_run_told_settled : (name : Text) (first : ℕ) (rest : Text) → (first ==
 unfolding clap_on_literals
 plain_run_told_settled name first rest e = (rw e (rw e refl), rw e (rw e refl), tt)
 
+plain_run_strict : (name : Text) (first : ℕ) (rest : Text) → (first == 45) ≡ false
+    → IsRead (name ∷ codes "run" ∷ strict_arguments true Plain (first ∷ rest)) (codes "run" ∷ strict_arguments true Plain (first ∷ rest))
+unfolding clap_on_literals
+plain_run_strict name first rest e = (rw e (rw e refl), rw e (rw e refl), tt)
+
+plain_run_strict_settled : (name : Text) (first : ℕ) (rest : Text) → (first == 45) ≡ false
+    → IsRead (name ∷ codes "run" ∷ strict_arguments true Settled (first ∷ rest)) (codes "run" ∷ strict_arguments true Settled (first ∷ rest))
+unfolding clap_on_literals
+plain_run_strict_settled name first rest e = (rw e (rw e refl), rw e (rw e refl), tt)
+
+plain_run_strict_told : (name : Text) (first : ℕ) (rest : Text) → (first == 45) ≡ false
+    → IsRead (name ∷ codes "run" ∷ strict_arguments true Told (first ∷ rest)) (codes "run" ∷ strict_arguments true Told (first ∷ rest))
+unfolding clap_on_literals
+plain_run_strict_told name first rest e = (rw e (rw e refl), rw e (rw e refl), tt)
+
+plain_run_strict_told_settled : (name : Text) (first : ℕ) (rest : Text) → (first == 45) ≡ false
+    → IsRead (name ∷ codes "run" ∷ strict_arguments true ToldSettled (first ∷ rest)) (codes "run" ∷ strict_arguments true ToldSettled (first ∷ rest))
+unfolding clap_on_literals
+plain_run_strict_told_settled name first rest e = (rw e (rw e refl), rw e (rw e refl), tt)
+
 input_run : (name : Text) → IsRead (name ∷ codes "run" ∷ codes "-" ∷ []) (codes "run" ∷ codes "-" ∷ [])
 unfolding clap_on_literals
 input_run name = (refl, refl, tt)
@@ -88,6 +108,26 @@ input_run_told_settled : (name : Text)
     → IsRead (name ∷ codes "run" ∷ run_arguments ToldSettled (codes "-")) (codes "run" ∷ run_arguments ToldSettled (codes "-"))
 unfolding clap_on_literals
 input_run_told_settled name = (refl, refl, tt)
+
+input_run_strict : (name : Text)
+    → IsRead (name ∷ codes "run" ∷ strict_arguments true Plain (codes "-")) (codes "run" ∷ strict_arguments true Plain (codes "-"))
+unfolding clap_on_literals
+input_run_strict name = (refl, refl, tt)
+
+input_run_strict_settled : (name : Text)
+    → IsRead (name ∷ codes "run" ∷ strict_arguments true Settled (codes "-")) (codes "run" ∷ strict_arguments true Settled (codes "-"))
+unfolding clap_on_literals
+input_run_strict_settled name = (refl, refl, tt)
+
+input_run_strict_told : (name : Text)
+    → IsRead (name ∷ codes "run" ∷ strict_arguments true Told (codes "-")) (codes "run" ∷ strict_arguments true Told (codes "-"))
+unfolding clap_on_literals
+input_run_strict_told name = (refl, refl, tt)
+
+input_run_strict_told_settled : (name : Text)
+    → IsRead (name ∷ codes "run" ∷ strict_arguments true ToldSettled (codes "-")) (codes "run" ∷ strict_arguments true ToldSettled (codes "-"))
+unfolding clap_on_literals
+input_run_strict_told_settled name = (refl, refl, tt)
 
 input_settle : (name : Text) → IsRead (name ∷ codes "settle" ∷ codes "-" ∷ []) (codes "settle" ∷ codes "-" ∷ [])
 unfolding clap_on_literals
@@ -194,6 +234,17 @@ run_read words name file Plain are (inr is) = rw (are, is) (input_run name)
 run_read words name file Settled are (inr is) = rw (are, is) (input_run_settled name)
 run_read words name file Told are (inr is) = rw (are, is) (input_run_told name)
 run_read words name file ToldSettled are (inr is) = rw (are, is) (input_run_told_settled name)
+
+pub run_strict_read : (words : List Text) (name file : Text) (kind : RunKind) → words ≡ name ∷ codes "run" ∷ strict_arguments true kind file → IsFileWord file
+    → IsRead words (codes "run" ∷ strict_arguments true kind file)
+run_strict_read words name file Plain are (inl (first, rest, is, plain)) = rw (are, is) (plain_run_strict name first rest (no_hyphen first plain))
+run_strict_read words name file Settled are (inl (first, rest, is, plain)) = rw (are, is) (plain_run_strict_settled name first rest (no_hyphen first plain))
+run_strict_read words name file Told are (inl (first, rest, is, plain)) = rw (are, is) (plain_run_strict_told name first rest (no_hyphen first plain))
+run_strict_read words name file ToldSettled are (inl (first, rest, is, plain)) = rw (are, is) (plain_run_strict_told_settled name first rest (no_hyphen first plain))
+run_strict_read words name file Plain are (inr is) = rw (are, is) (input_run_strict name)
+run_strict_read words name file Settled are (inr is) = rw (are, is) (input_run_strict_settled name)
+run_strict_read words name file Told are (inr is) = rw (are, is) (input_run_strict_told name)
+run_strict_read words name file ToldSettled are (inr is) = rw (are, is) (input_run_strict_told_settled name)
 
 pub settle_read : (words : List Text) (name file : Text) → words ≡ name ∷ codes "settle" ∷ file ∷ [] → IsFileWord file
     → IsRead words (codes "settle" ∷ file ∷ [])
@@ -307,11 +358,13 @@ nothing_asked None asked none is = cc
 nothing_asked (Some request) asked none is = cc
 
 -- a run's words are of its kind and file
-pub run_met : (kind : Option RunKind) (file : Option Text) (asked : List Text) → words_to_run kind file ≡ Some asked
-    → (k : RunKind) × (name : Text) × (kind ≡ Some k) × (file ≡ Some name) × (codes "run" ∷ run_arguments k name ≡ asked)
-run_met (Some k) (Some name) asked e = let same : codes "run" ∷ run_arguments k name ≡ asked = cc in (k, name, refl, refl, same)
-run_met (Some k) None asked e = absurd cc
-run_met None file asked e = absurd cc
+pub run_met : (strict : Option Bool) (kind : Option RunKind) (file : Option Text) (asked : List Text) → words_to_run strict kind file ≡ Some asked
+    → (s : Bool) × (k : RunKind) × (name : Text) × (strict ≡ Some s) × (kind ≡ Some k) × (file ≡ Some name) × (codes "run" ∷ strict_arguments s k name ≡ asked)
+run_met (Some s) (Some k) (Some name) asked e =
+    let same : codes "run" ∷ strict_arguments s k name ≡ asked = cc in (s, k, name, refl, refl, refl, same)
+run_met (Some s) (Some k) None asked e = absurd cc
+run_met (Some s) None file asked e = absurd cc
+run_met None kind file asked e = absurd cc
 
 -- and its kind is of its flags
 pub kind_met : (settle tell : Option Bool) (k : RunKind) → kind_from settle tell ≡ Some k

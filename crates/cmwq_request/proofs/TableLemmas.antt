@@ -4,7 +4,7 @@ use Rattle.std.proofs.lemmas.Bool.{and_parts}
 use Rattle.std.specs.Cmp.Lexicographic.{bytes_decides}
 use Rattle.clap.specs.Words.{Text}
 use Rattle.cmwq_request.specs.Request.{IsAskedBy, IsMisuse, IsMisusedBy, IsRead, asks_for_language}
-use Rattle.cmwq_request.proofs.RequestLemmas.{asm_read, check_read, check_two_read, list_read, new_file_read, new_read, play_read, run_read, settle_read, show_read}
+use Rattle.cmwq_request.proofs.RequestLemmas.{asm_read, check_read, check_two_read, list_read, new_file_read, new_read, play_read, run_read, run_strict_read, settle_read, show_read}
 use Rattle.cmwq_request.proofs.DebugLemmas.{debug_read, input_misused}
 use Rattle.cmwq_request.proofs.ExploreLemmas.{explore_read, explore_usual_read, limit_misused, never_misused, ring_misused}
 use Rattle.cmwq_request.proofs.ReportLemmas.{both_kinds_misused, no_form_misused, no_limits_misused, sweep_read, times_read, trace_data_read, trace_read, two_forms_misused, whom_swept_misused}
@@ -21,6 +21,7 @@ pub asked_read : (words : List Text) (name : Text) (given asked : List Text) →
 asked_read words name given asked are IsAskedBy.new = inl (new_read words name are)
 asked_read words name given asked are (IsAskedBy.new_file file plain) = inl (new_file_read words name file are plain)
 asked_read words name given asked are (IsAskedBy.run kind file plain) = inl (run_read words name file kind are plain)
+asked_read words name given asked are (IsAskedBy.run_strict kind file plain) = inl (run_strict_read words name file kind are plain)
 asked_read words name given asked are (IsAskedBy.settle file plain) = inl (settle_read words name file are plain)
 asked_read words name given asked are (IsAskedBy.list file plain) = inl (list_read words name file are plain)
 asked_read words name given asked are (IsAskedBy.asm file out plain plain_out) = inl (asm_read words name file out are plain plain_out)
@@ -90,6 +91,7 @@ asked_language given asked are IsAskedBy.language = refl
 asked_language given asked are IsAskedBy.new = absurd (is_no_help given refl are)
 asked_language given asked are (IsAskedBy.new_file file plain) = absurd (is_no_help given refl are)
 asked_language given asked are (IsAskedBy.run kind file plain) = absurd (is_no_help given refl are)
+asked_language given asked are (IsAskedBy.run_strict kind file plain) = absurd (is_no_help given refl are)
 asked_language given asked are (IsAskedBy.settle file plain) = absurd (is_no_help given refl are)
 asked_language given asked are (IsAskedBy.list file plain) = absurd (is_no_help given refl are)
 asked_language given asked are (IsAskedBy.asm file out plain plain_out) = absurd (is_no_help given refl are)

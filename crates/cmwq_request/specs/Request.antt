@@ -1,11 +1,12 @@
 -- What the words of a command line ask for.
-use Rattle.std.specs.Prelude.{◌≡◌, ◌≢◌, ◌≤◌, ◌<◌, ◌^◌, ◌⊎◌, ℕ, List, [], ◌∷◌, ◌++◌, Bool, true, false, ◌&&◌, ◌||◌, ◌==◌, length, nat_le, nat_lt, map, codes, if◌then◌else◌, Option, None, Some, is_none, option_and_then, option_map, option_to_list, Result, IsErrAnd, MatchResult}
+use Rattle.std.specs.Prelude.{◌≡◌, ◌≢◌, ◌≤◌, ◌<◌, ◌^◌, ◌⊎◌, ℕ, List, [], ◌∷◌, ◌++◌, Bool, true, false, ◌&&◌, ◌||◌, ◌==◌, length, nat_le, nat_lt, map, codes, if◌then◌else◌, Option, None, Some, is_none, option_and_then, option_map, option_to_list, Result, IfSome, IsErrAnd, MatchResult}
 use Rattle.std.specs.List.{list_all}
 use Rattle.std.specs.Fmt.{decimal}
 use Rattle.std.specs.Str.{bytes_eq}
 use Rattle.std.specs.Str.Parse.{digits_value}
-use Rattle.clap.specs.Words.{Row, Text, all_of, first_of, kind_of, one_of, subcommand_of, takes}
-use Rattle.cmwq_command_line.specs.CommandLine.{command_line}
+use Rattle.clap.specs.Words.{Row, Text, all_of, app_of, first_of, kind_of, one_of, subcommand_of, takes}
+use Rattle.clap.specs.declared.builder.command.Command.{Command}
+use Rattle.cmwq_command_line.specs.CommandLine.{IsCalled, command_line, misusable}
 use Rattle.clap.specs.declared.error.Error.{Error}
 use Rattle.clap.specs.declared.error.kind.ErrorKind.TheVariants.{OutOfMemory, ValueValidation}
 use Rattle.cmwq_types.specs.declared.limits.TheConstants.{MAX_LINES}
@@ -36,7 +37,7 @@ use Rattle.cmwq_tasks.specs.declared.task.Task.{Task}
 use Rattle.cmwq_tasks.specs.declared.task.Task.TheVariants as task
 use Rattle.cmwq_request.specs.Numbers.{are_limits, limits_in, limits_word, plain_number}
 use Rattle.cmwq_request.specs.declared.request.Request.{Request}
-use Rattle.cmwq_request.specs.declared.request.Request.TheVariants.{New, Do, Sweep, TraceData, Asm, Debug, Play, Explore, Check, Language, Version}
+use Rattle.cmwq_request.specs.declared.request.Request.TheVariants.{New, Do, Strict, Sweep, TraceData, Asm, Debug, Play, Explore, Check, Language, Version}
 
 -- how many entries a play's history may have room for: as many as an actor may have lines
 abbrev pub IsCapacity : ℕ → Type 0
@@ -66,6 +67,10 @@ run_arguments Plain file = file ∷ []
 run_arguments Settled file = codes "--settle" ∷ file ∷ []
 run_arguments Told file = codes "--tell" ∷ file ∷ []
 run_arguments ToldSettled file = codes "--settle" ∷ codes "--tell" ∷ file ∷ []
+
+-- the same with --strict, if that is given
+abbrev pub strict_arguments : (strict : Bool) → RunKind → Text → List Text
+strict_arguments strict kind file = option_words (codes "--strict") strict ++ run_arguments kind file
 
 -- what stands behind `debug`
 abbrev pub debug_arguments : (settle : Bool) → Text → List Text
@@ -269,6 +274,7 @@ abbrev pub request_words : Request → List Text
 request_words (New None) = codes "new" ∷ []
 request_words (New (Some file)) = codes "new" ∷ file.now ∷ []
 request_words (Do file task) = task_words task file.now
+request_words (Strict file kind) = codes "run" ∷ strict_arguments true kind file.now
 request_words (Sweep file sweep) = codes "times" ∷ sweep_arguments sweep.format sweep.queue.now sweep.limits file.now
 request_words (TraceData file out) = codes "trace" ∷ data_arguments file.now out.now
 request_words (Asm file out) = codes "asm" ∷ file.now ∷ out.now ∷ []
@@ -318,11 +324,15 @@ kind_from (Some settle) (Some tell) = Some (kind_of_run settle tell)
 kind_from settle tell = None
 
 -- the words of such a run of this file
-abbrev pub words_to_run : Option RunKind → Option Text → Option (List Text)
-words_to_run kind file = option_and_then (λ given. option_map (λ name. codes "run" ∷ run_arguments given name) file) kind
+abbrev pub words_to_run : (strict : Option Bool) → Option RunKind → Option Text → Option (List Text)
+words_to_run strict kind file =
+    option_and_then
+    (λ is_strict. option_and_then (λ given. option_map (λ name. codes "run" ∷ strict_arguments is_strict given name) file) kind)
+    strict
 
 abbrev pub file_to_run : List Row → Option (List Text)
-file_to_run rows = words_to_run (kind_from (flag_of (codes "settle") rows) (flag_of (codes "tell") rows)) (first_of (codes "FILE") rows)
+file_to_run rows =
+    words_to_run (flag_of (codes "strict") rows) (kind_from (flag_of (codes "settle") rows) (flag_of (codes "tell") rows)) (first_of (codes "FILE") rows)
 
 -- whether a debugger's run goes on, and the words of such a request
 abbrev pub words_to_debug : Option Bool → Option Text → Option (List Text)
@@ -612,6 +622,10 @@ AsksNothing met =
 abbrev pub IsMisuse : List Text → Type 0
 IsMisuse words = (takes command_line words ≡ true) × (met : Text × List Row) × (subcommand_of command_line words ≡ Some met) × AsksNothing met
 
+-- the usage of the command of this name is told, if it is one that can be given words which ask for nothing
+abbrev pub HasUsageOf : (name : Text) → Command → Type 0
+HasUsageOf name command = IfSome (misusable name) (λ app. (app_of command ≡ app) × IsCalled name command)
+
 -- the word is no option: it isn't empty and doesn't begin with a hyphen (45)
 abbrev pub IsPlainWord : Text → Type 0
 IsPlainWord word = (first : ℕ) × (rest : Text) × (word ≡ first ∷ rest) × (first ≢ 45)
@@ -702,6 +716,8 @@ pub data IsAskedBy : (given asked : List Text) → Type 0 where
   new : IsAskedBy (codes "new" ∷ []) (codes "new" ∷ [])
   new_file : (file : Text) → IsPlainWord file → IsAskedBy (codes "new" ∷ file ∷ []) (codes "new" ∷ file ∷ [])
   run : (kind : RunKind) (file : Text) → IsFileWord file → IsAskedBy (codes "run" ∷ run_arguments kind file) (codes "run" ∷ run_arguments kind file)
+  run_strict : (kind : RunKind) (file : Text) → IsFileWord file
+      → IsAskedBy (codes "run" ∷ strict_arguments true kind file) (codes "run" ∷ strict_arguments true kind file)
   settle : (file : Text) → IsFileWord file → IsAskedBy (codes "settle" ∷ file ∷ []) (codes "settle" ∷ file ∷ [])
   list : (file : Text) → IsFileWord file → IsAskedBy (codes "list" ∷ file ∷ []) (codes "list" ∷ file ∷ [])
   asm : (file out : Text) → IsFileWord file → IsPlainWord out → IsAskedBy (codes "asm" ∷ file ∷ out ∷ []) (codes "asm" ∷ file ∷ out ∷ [])

@@ -2,7 +2,7 @@
 
 ghost use Rattle.clap.specs.Words.{Row, Text, all_of, app_of, fault_of, first_of, found_of, kind_of, rows_of, subcommand_rows_of};
 ghost use Rattle.cmwq_command_line.specs.CommandLine.{command_line};
-ghost use Rattle.cmwq_request.specs.Request.{Asks, AsksNothing, AsksVersion, HasCapacity, IsAskedBy, IsCapacity, IsMisuse, IsMisusedBy, IsRead, IsRequestOf, IsUsageFault, IsVersionWord, IsWithin, all_values, asked_in, asked_of, asked_of_run, asks_for_language, file_and_capacity, file_to_debug, file_to_run, kind_of_run, task_words, request_words};
+ghost use Rattle.cmwq_request.specs.Request.{Asks, AsksNothing, AsksVersion, HasCapacity, HasUsageOf, IsAskedBy, IsCapacity, IsMisuse, IsMisusedBy, IsRead, IsRequestOf, IsUsageFault, IsVersionWord, IsWithin, all_values, asked_in, asked_of, asked_of_run, asks_for_language, file_and_capacity, file_to_debug, file_to_run, kind_of_run, strict_arguments, task_words, request_words};
 ghost use Rattle.std.specs.Fmt.{decimal};
 ghost use Rattle.std.specs.Str.{bytes_eq};
 ghost use Rattle.std.specs.Prelude.{◌≡◌, ◌↔◌, ℕ, List, [], ◌∷◌, IfOk, IfSome, IsTrue, None, Some, codes, false, map, option_map, string_bytes};
@@ -13,7 +13,7 @@ use crate::exploring::{explore_request, ring_told, wanted_by_explore};
 use crate::reporting::{times_request, trace_request, wanted_by_times};
 use clap::error::ErrorKind;
 use clap::{ArgMatches, Command, Error};
-use cmwq_command_line::commands::command_line;
+use cmwq_command_line::commands::{called_command, command_line};
 use cmwq_exploration::{Exploration, MAX_STATES};
 use cmwq_reports::Sweep;
 use cmwq_tasks::{RunKind, Task};
@@ -37,6 +37,13 @@ pub enum Request<'a> {
         file: &'a str,
         /// What is done with it.
         task: Task<'a>,
+    },
+    /// Run the scenario whose text is in this file, and tell how many of its actor's instructions were refused.
+    Strict {
+        /// The text's path.
+        file: &'a str,
+        /// How it is run.
+        kind: RunKind,
     },
     /// Tell what the run of the scenario whose text is in this file comes to, for each of several values of a queue's `max_active`.
     Sweep {
@@ -143,24 +150,41 @@ fn request_met<'a>(
     };
     match request_of(alloc, &matches)? {
         Some(request) => Ok(request),
-        None => Err(misuse(alloc, command, &matches)?),
+        None => Err(misuse(alloc, &matches)?),
     }
 }
 
-/// The usage fault of words that ask for nothing. The error is want of memory.
-fn misuse<'a>(
-    alloc: Global,
-    command: &mut Command<'a>,
-    matches: &ArgMatches<'a>,
-) -> Result<Error, AllocError>
+/// The usage fault of words that ask for nothing, with the usage of their command. The error is want of memory.
+fn misuse(alloc: Global, matches: &ArgMatches<'_>) -> Result<Error, AllocError>
     ensures { IfOk result (λ error. kind_of error ≡ ErrorKind.ValueValidation) }
 {
+    let mut command = command_met(alloc, matches)?;
     if let Some(("explore", given)) = matches.subcommand()
         && let Some(line) = ring_told(alloc, given)?
     {
         return command.error(ErrorKind::ValueValidation, line.as_str());
     }
     command.error(ErrorKind::ValueValidation, wanted_words(matches))
+}
+
+/// The command that was met, by itself, if its words can ask for nothing, and else the program. The error is want of memory.
+fn command_met<'a>(alloc: Global, matches: &ArgMatches<'_>) -> Result<Command<'a>, AllocError>
+    ensures { (met : Text × List Row) → subcommand_rows_of matches.now ≡ Some met → IfOk result (λ command. HasUsageOf met.0 command) }
+{
+    match matches.subcommand() {
+        Some((name, _)) => command_named(alloc, name),
+        None => command_line(alloc),
+    }
+}
+
+/// The command of this name, by itself, if its words can ask for nothing, and else the program. The error is want of memory.
+fn command_named<'a>(alloc: Global, name: &str) -> Result<Command<'a>, AllocError>
+    ensures { IfOk result (λ command. HasUsageOf name.now command) }
+{
+    match called_command(alloc, name)? {
+        Some(command) => Ok(command),
+        None => command_line(alloc),
+    }
 }
 
 /// What the command that was met takes.
@@ -298,8 +322,24 @@ fn run_request<'a>(given: &ArgMatches<'a>) -> Option<Request<'a>>
     ensures words { (asked : List Text) → file_to_run (rows_of (found_of given.now)) ≡ Some asked → option_map (λ request. request_words request) result ≡ Some asked }
     ensures capacity { IfSome result (λ request. IsWithin request) }
 {
+    let file = value_of(given, "FILE")?;
     let kind = run_kind(flag_of(given, "settle"), flag_of(given, "tell"));
-    on_file(given, "FILE", Task::Run(kind))
+    Some(run_of(file, kind, flag_of(given, "strict")))
+}
+
+/// The run of the file, which tells how many instructions were refused if it is strict.
+fn run_of<'a>(file: &'a str, kind: RunKind, strict: bool) -> Request<'a>
+    ensures words { request_words result ≡ codes "run" ∷ strict_arguments strict kind file.entry.now }
+    ensures capacity { IsWithin result }
+{
+    if strict {
+        Request::Strict { file, kind }
+    } else {
+        Request::Do {
+            file,
+            task: Task::Run(kind),
+        }
+    }
 }
 
 /// Which run the flags ask for.

@@ -1,0 +1,59 @@
+//! What is told of a strict run.
+ghost use Rattle.cmwq_outcome.specs.Refused.{IsLineOf, IsRefusedLine, refused_line};
+ghost use Rattle.cmwq_types.specs.Faults.{IsValid};
+ghost use Rattle.std.specs.Prelude.{◌≡◌, IfOk, option_map};
+
+use cmwq_asm::{AsmError, assemble};
+use cmwq_core::Core;
+use cmwq_play::judge;
+use cmwq_remarks::issue_lines;
+use cmwq_table::Machine;
+use cmwq_types::{NoMemory, Scenario};
+use itoa::Buffer;
+use std::alloc::Global;
+use std::sync::Arc;
+
+/// Returns the line that says how many instructions of the actor are refused in the run of the text's scenario, and at which position the
+/// first of them is issued; none if no instruction is refused, or if there is no such run. It fails only for want of memory.
+pub fn refused_line(alloc: Global, text: &[u8]) -> Result<Option<Vec<u8>>, NoMemory>
+    ensures { IfOk result (λ told. IsRefusedLine text.now (option_map (λ line. line.items) told)) }
+{
+    match assemble(alloc, text) {
+        Ok(scenario) => line_of_run::<Core>(alloc, scenario),
+        Err(AsmError::At { .. }) => Ok(None),
+        Err(AsmError::NoMemory) => Err(NoMemory),
+    }
+}
+
+/// Returns the same line on the run of this scenario.
+fn line_of_run<M: Machine>(alloc: Global, scenario: Scenario) -> Result<Option<Vec<u8>>, NoMemory>
+    requires { IsValid scenario }
+    ensures { IfOk result (λ told. IsLineOf scenario (option_map (λ line. line.items) told)) }
+{
+    if judge(&scenario).is_err() {
+        return Ok(None);
+    }
+    let scenario = Arc::new(alloc, scenario)?;
+    let mut machine = M::begin(alloc, Arc::clone(&scenario)?)?;
+    let refusals = issue_lines(&mut machine, &scenario.actors[0].lines);
+    match refusals.first {
+        Some(position) => Ok(Some(line(alloc, refusals.count, position)?)),
+        None => Ok(None),
+    }
+}
+
+/// Returns the line on so many refusals, the first of which is at this position.
+fn line(alloc: Global, count: u32, position: u32) -> Result<Vec<u8>, NoMemory>
+    ensures { IfOk result (λ line. line.items ≡ refused_line count position) }
+{
+    let mut line = String::from_str(alloc, "refused ")?;
+    line.push_str(Buffer::new().format(count))?;
+    line.push_str(if count == 1 {
+        " instruction, at position "
+    } else {
+        " instructions, first at position "
+    })?;
+    line.push_str(Buffer::new().format(position))?;
+    line.push_str("\n")?;
+    Ok(line.into_bytes())
+}
