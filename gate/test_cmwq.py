@@ -1,5 +1,5 @@
 """A test of `cmwq`, the command at the top, over a program that stands in for the real one: what it runs, builds, says and hands on.
-Last, if the kit is installed, a proof of three small crates."""
+Last, if the kit is installed, small programs that are built unproved and proved."""
 import io
 import os
 import shutil
@@ -35,6 +35,11 @@ def write(path, text, mode=0o644):
     os.chmod(path, mode)
 
 
+def read(path):
+    with open(path, encoding="utf-8") as it:
+        return it.read()
+
+
 def made(room):
     """A tree with the command, stand-ins for its tools and one crate."""
     shutil.copy2(f"{TOP}/cmwq", f"{room}/cmwq")
@@ -55,8 +60,7 @@ def call(room, *words, command="cmwq", cwd=None, path=None):
 
 
 def calls(room):
-    with open(f"{room}/calls", encoding="utf-8") as it:
-        return it.read().split()
+    return read(f"{room}/calls").split()
 
 
 def check_builds(room):
@@ -141,6 +145,43 @@ fn main(rt: HostRuntime) -> io::Result<()> {
 """
 
 
+CARELESS = """//! Reads past the end of its words if it has two, and adds past the end of a type if it has three.
+#![tactic(auto)]
+
+use std::{env, io};
+
+fn main(rt: HostRuntime) -> io::Result<()> {
+    let words = match env::args(&rt) {
+        Ok(words) => words.collect::<Vec<String>>(rt.alloc()).ok(),
+        Err(_) => None,
+    };
+    let Some(words) = words else {
+        return Ok(());
+    };
+    match words.len() {
+        2 => println!(rt; "one"),
+        3 => println!(rt; "{}", words[3].len()),
+        _ => println!(rt; "{}", 252u8 + words.len() as u8),
+    }
+}
+"""
+
+
+def check_unproved(room):
+    """A program that is built unproved is optimised, and stops at an index out of bounds and at a sum that wraps."""
+    write(f"{room}/crates.txt", "cmwq:\n")
+    write(f"{room}/crates/cmwq/src/main.rt", CARELESS)
+    for file in ("tools/unproved.py", "tools/kit.py"):
+        write(f"{room}/{file}", read(f"{TOP}/{file}"))
+    os.makedirs(f"{room}/out/unproved")
+    assert subprocess.run([sys.executable, f"{room}/tools/unproved.py"]).returncode == 0
+    program = f"{room}/out/unproved/cmwq"
+    ran = [subprocess.run([program, *words], stdout=subprocess.PIPE, text=True) for words in (["a"], ["a", "b"], ["a", "b", "c"])]
+    assert [(it.returncode, it.stdout) for it in ran] == [(0, "one\n"), (-signal.SIGILL, ""), (-signal.SIGILL, "")], ran
+    with open(program, "rb") as it:
+        assert b"rattle-llvm-checks" not in it.read(), "what is optimised has no function that only checks"
+
+
 def small(room):
     """A tree with a small program, two libraries below it, which no run has proved before, and one beside it."""
     write(f"{room}/crates.txt", "left:\nright:\nbeside:\ncmwq: left right\n")
@@ -150,8 +191,7 @@ def small(room):
     write(f"{room}/crates/cmwq/src/main.rt", CALLER)
     write(f"{room}/crates/cmwq/stdout", "1 2\n")
     for file in ("tools/prove.py", "tools/kit.py", "gate/crates.py"):
-        os.makedirs(os.path.dirname(f"{room}/{file}"), exist_ok=True)
-        shutil.copy(f"{TOP}/{file}", f"{room}/{file}")
+        write(f"{room}/{file}", read(f"{TOP}/{file}"))
 
 
 def proof(room, stop=None):
@@ -170,8 +210,7 @@ def check_proof(prove, room):
     small(room)
     copy = f"{room}/copy"
     assert prove.copy_of(room, "cmwq", copy) == ["left", "right", "cmwq"], "the program's crates, lowest first"
-    with open(f"{copy}/crates.txt", encoding="utf-8") as it:
-        assert it.read() == "left:\nright:\ncmwq: left right\n"
+    assert read(f"{copy}/crates.txt") == "left:\nright:\ncmwq: left right\n"
     assert sorted(os.listdir(f"{copy}/crates")) == ["cmwq", "left", "right"] and os.listdir(f"{copy}/crates/left") == ["src"]
     shutil.rmtree(copy)
     status, lines = proof(room, "2 of 3 crates are proved; cmwq")
@@ -198,6 +237,8 @@ if shutil.which("rt"):
     import prove
 
     check_progress(prove)
+    with tempfile.TemporaryDirectory(prefix="cmwq-") as room:
+        check_unproved(os.path.realpath(room))
     with tempfile.TemporaryDirectory(prefix="cmwq-") as room:
         check_proof(prove, os.path.realpath(room))
 print("gate/test_cmwq.py: ok")
