@@ -10,44 +10,27 @@ PROGRAM is `bench_explore`, which this builds where it isn't there: unproved, an
 import os
 import pathlib
 import re
-import shutil
 import subprocess
 import sys
 import tempfile
 
 sys.dont_write_bytecode = True
-TOP = pathlib.Path(__file__).resolve().parent.parent
-sys.path.insert(0, str(TOP / "tools"))
-import kit
+import programs
 import quick
-import unproved
 
 NAME = "bench_explore"
-USES = "cmwq_types cmwq_orders cmwq_plain cmwq_asm cmwq_streams cmwq_play cmwq_explore"
 # How many states can be reached, where no question tells it.
 SPACES = {"cancel_race": 24757}
 
 
 def build(program):
-    """Builds the program in a folder of its own, beside the repository's crates: its sources have another ending here, since the gate
-    refuses those that no crate of the repository reads."""
+    """Builds the program in a folder of its own, beside the crates that it uses."""
     with tempfile.TemporaryDirectory(prefix="explore-") as folder:
-        folder = pathlib.Path(folder)
-        for part in (TOP / "crates").glob("*/src"):
-            shutil.copytree(part, folder / "crates" / part.parent.name / "src")
-        (folder / "crates.txt").write_text((TOP / "crates.txt").read_text("utf-8") + f"{NAME}: {USES}\n", "utf-8")
-        for file in (TOP / "bench" / NAME).rglob("*.txt"):
-            to = folder / "crates" / NAME / file.relative_to(TOP / "bench" / NAME).with_suffix("")
-            to.parent.mkdir(parents=True, exist_ok=True)
-            shutil.copy(file, to)
-        kit.TOP = str(folder)
-        unproved.CRATE = NAME
-        room = folder / "room"
-        room.mkdir()
-        said = quick.module_of(str(room))
+        room = programs.use(NAME, folder)
+        said = quick.module_of(room)
         if said is not None:
             sys.exit("\n".join(said.splitlines()[-30:]))
-        quick.compile_module(str(room), program)
+        quick.compile_module(room, program)
 
 
 def asked(program, text, words):

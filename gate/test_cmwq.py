@@ -1,13 +1,13 @@
 """A test of `cmwq`, the command at the top, over a program that stands in for the real one: what it runs, builds, says and hands on.
-It builds and proves nothing."""
+Last, if the kit is installed, small programs that are built unproved and proved."""
 import io
 import os
 import shutil
+import signal
 import subprocess
 import sys
 import tempfile
 import time
-import types
 
 sys.dont_write_bytecode = True
 TOP = os.path.dirname(os.path.dirname(os.path.realpath(__file__)))
@@ -35,6 +35,11 @@ def write(path, text, mode=0o644):
     os.chmod(path, mode)
 
 
+def read(path):
+    with open(path, encoding="utf-8") as it:
+        return it.read()
+
+
 def made(room):
     """A tree with the command, stand-ins for its tools and one crate."""
     shutil.copy2(f"{TOP}/cmwq", f"{room}/cmwq")
@@ -55,8 +60,7 @@ def call(room, *words, command="cmwq", cwd=None, path=None):
 
 
 def calls(room):
-    with open(f"{room}/calls", encoding="utf-8") as it:
-        return it.read().split()
+    return read(f"{room}/calls").split()
 
 
 def check_builds(room):
@@ -102,28 +106,126 @@ def check_faults(room):
 
 
 def check_progress(prove):
-    """What is said of a proof, by the lines of `rt`."""
+    """What is said of a proof, by the lines of `rt ci` and by what it runs."""
     said = io.StringIO()
-    progress = prove.Progress(2, said)
-    progress.begin("cmwq_plain")
-    progress.read("cmwq_plain", "so far: 41 of 73 functions checked\n")
-    progress.end("cmwq_plain")
-    progress.begin("cmwq")
-    wanted = ["0 of 2 crates are proved; cmwq_plain", "1 of 2 crates are proved; cmwq"]
+    progress = prove.Progress(["low", "left", "right", "top"], said)
+    progress.tell({"low"})
+    assert not progress.read("rt: low is kept: an earlier run on this machine proved the same files over the same libraries\n")
+    progress.tell({"right", "left", "low"})
+    progress.tell({"left", "right"})
+    progress.tell(set())
+    assert not progress.read("rt: left proved\n") and not progress.read("rt: left: its tests are proved\n")
+    progress.tell(set())
+    progress.tell(set())
+    assert progress.read("rt: right NOT PROVED\n") and not progress.read("rt: note: NOT PROVED\n")
+    wanted = ["0 of 4 crates are proved; low", "1 of 4 crates are proved; left, right", "2 of 4 crates are proved"]
     assert said.getvalue().splitlines() == wanted, said.getvalue()
 
 
-def check_order(prove):
-    """A crate is proved once those below it are, and none once one has failed."""
-    below = {"low": [], "left": ["low"], "right": ["low"], "top": ["left", "right"]}
-    crates = {}
-    for name, deps in below.items():
-        crates[name] = types.SimpleNamespace(name=name, below=lambda deps=deps: [crates[dep] for dep in deps])
-    for failing, status in (("", 0), ("left", 1)):
-        began = []
-        prove.prove_library = lambda crate, *_: began.append(crate.name) or (int(crate.name == failing), [])
-        assert prove.prove_libraries(list(crates.values()), None, None)[0] == status
-        assert began[0] == "low" and ("top" in began) == (began[-1] == "top") == (not status), began
+LIBRARY = """// {number}
+#![tactic(auto)]
+
+ghost use Rattle.std.specs.Prelude.{{◌≡◌}};
+
+/// Returns the number.
+pub fn same(number: u32) -> u32
+    ensures same {{ result ≡ number }}
+{{
+    number
+}}
+"""
+CALLER = """//! Calls both libraries.
+#![tactic(auto)]
+
+use std::io;
+
+fn main(rt: HostRuntime) -> io::Result<()> {
+    println!(rt; "{} {}", left::same(1), right::same(2))
+}
+"""
+
+
+CARELESS = """//! Reads past the end of its words if it has two, and adds past the end of a type if it has three.
+#![tactic(auto)]
+
+use std::{env, io};
+
+fn main(rt: HostRuntime) -> io::Result<()> {
+    let words = match env::args(&rt) {
+        Ok(words) => words.collect::<Vec<String>>(rt.alloc()).ok(),
+        Err(_) => None,
+    };
+    let Some(words) = words else {
+        return Ok(());
+    };
+    match words.len() {
+        2 => println!(rt; "one"),
+        3 => println!(rt; "{}", words[3].len()),
+        _ => println!(rt; "{}", 252u8 + words.len() as u8),
+    }
+}
+"""
+
+
+def check_unproved(room):
+    """A program that is built unproved is optimised, and stops at an index out of bounds and at a sum that wraps."""
+    write(f"{room}/crates.txt", "cmwq:\n")
+    write(f"{room}/crates/cmwq/src/main.rt", CARELESS)
+    for file in ("tools/unproved.py", "tools/kit.py"):
+        write(f"{room}/{file}", read(f"{TOP}/{file}"))
+    os.makedirs(f"{room}/out/unproved")
+    assert subprocess.run([sys.executable, f"{room}/tools/unproved.py"]).returncode == 0
+    program = f"{room}/out/unproved/cmwq"
+    ran = [subprocess.run([program, *words], stdout=subprocess.PIPE, text=True) for words in (["a"], ["a", "b"], ["a", "b", "c"])]
+    assert [(it.returncode, it.stdout) for it in ran] == [(0, "one\n"), (-signal.SIGILL, ""), (-signal.SIGILL, "")], ran
+    with open(program, "rb") as it:
+        assert b"rattle-llvm-checks" not in it.read(), "what is optimised has no function that only checks"
+
+
+def small(room):
+    """A tree with a small program, two libraries below it, which no run has proved before, and one beside it."""
+    write(f"{room}/crates.txt", "left:\nright:\nbeside:\ncmwq: left right\n")
+    for at, name in enumerate(["left", "right", "beside"]):
+        write(f"{room}/crates/{name}/src/lib.rt", LIBRARY.format(number=time.time_ns() + at))
+    write(f"{room}/crates/left/must-fail/same.is_one.edit", "file: src/lib.rt\nold:     number\nnew:     1\n")
+    write(f"{room}/crates/cmwq/src/main.rt", CALLER)
+    write(f"{room}/crates/cmwq/stdout", "1 2\n")
+    for file in ("tools/prove.py", "tools/kit.py", "gate/crates.py"):
+        write(f"{room}/{file}", read(f"{TOP}/{file}"))
+
+
+def proof(room, stop=None):
+    """Proves the tree's program, and sends what a terminal sends for Ctrl-C once this is said. Returns the status and the lines that were said."""
+    lines = []
+    with subprocess.Popen([sys.executable, f"{room}/tools/prove.py"], stderr=subprocess.PIPE, text=True, start_new_session=True) as ran:
+        for line in ran.stderr:
+            lines.append(line.rstrip("\n"))
+            if stop and line.startswith(stop):
+                os.killpg(ran.pid, signal.SIGINT)
+    return ran.returncode, lines
+
+
+def check_proof(prove, room):
+    """Crates are proved side by side, Ctrl-C keeps what is proved, and the next call takes it."""
+    small(room)
+    copy = f"{room}/copy"
+    assert prove.copy_of(room, "cmwq", copy) == ["left", "right", "cmwq"], "the program's crates, lowest first"
+    assert read(f"{copy}/crates.txt") == "left:\nright:\ncmwq: left right\n"
+    assert sorted(os.listdir(f"{copy}/crates")) == ["cmwq", "left", "right"] and os.listdir(f"{copy}/crates/left") == ["src"]
+    shutil.rmtree(copy)
+    status, lines = proof(room, "2 of 3 crates are proved; cmwq")
+    assert status == 130 and lines[-1].startswith("cmwq: interrupted; "), lines
+    assert len(os.sched_getaffinity(0)) == 1 or "0 of 3 crates are proved; left, right" in lines, "two small crates overlap"
+    if not prove.keeps():
+        return
+    status, lines = proof(room)
+    assert (status, lines[-1]) == (0, "cmwq: proved and built"), lines
+    assert not any("left" in line or "right" in line for line in lines), "what was proved is taken"
+    assert subprocess.run([f"{room}/crates/cmwq/out/cmwq"], stdout=subprocess.PIPE, text=True).stdout == "1 2\n"
+    assert os.path.getsize(f"{room}/crates/cmwq/out/cmwq.o") and os.path.exists(f"{room}/crates/cmwq/out/cmwq.mark")
+    write(f"{room}/crates/left/src/lib.rt", LIBRARY.format(number=0).replace("    number\n", "    1\n"))
+    status, lines = proof(room)
+    assert status == 126 and "rt: left NOT PROVED" in lines and lines[-1].startswith("cmwq: the program isn't proved; "), lines
 
 
 for check in (check_builds, check_faults):
@@ -135,5 +237,8 @@ if shutil.which("rt"):
     import prove
 
     check_progress(prove)
-    check_order(prove)
+    with tempfile.TemporaryDirectory(prefix="cmwq-") as room:
+        check_unproved(os.path.realpath(room))
+    with tempfile.TemporaryDirectory(prefix="cmwq-") as room:
+        check_proof(prove, os.path.realpath(room))
 print("gate/test_cmwq.py: ok")

@@ -28,12 +28,6 @@ def sources(folder):
     return ["--crate-name", crate.name, "src/main.rt", *crate.sources_below(), *libraries]
 
 
-def crates_below(folder):
-    """The repository's crates below a program, lowest first, and its own; each knows its name and folder, and whether it is built."""
-    crate = crate_at(folder)[1]
-    return [*crate.below(), crate]
-
-
 def begin(mark):
     """Makes the mark of a build that begins: what changes from now on is newer."""
     with open(mark, "w", encoding="utf-8"):

@@ -11,6 +11,7 @@ import tempfile
 sys.dont_write_bytecode = True
 sys.path.insert(0, os.path.dirname(os.path.realpath(__file__)))
 import kit
+import prove
 
 OBJECT = f"{kit.TOP}/crates/cmwq/out/cmwq.o"
 # Each folder or file of the repository, and where it goes.
@@ -82,6 +83,11 @@ def pack(program, version):
 
 
 def main():
+    if not os.path.exists(OBJECT):
+        # (`rt ci` took a program that it had kept)
+        status = prove.main(with_object=True)
+        if status:
+            return status
     with tempfile.TemporaryDirectory(prefix="cmwq-package-") as room:
         program = f"{room}/cmwq"
         why = link(program)

@@ -1,119 +1,167 @@
-"""Proves and builds the program, as crates/cmwq/out/cmwq, and tells on standard error how far it is. Crates that don't stand on one
-another are proved at once, as many as there are processors."""
-import concurrent.futures
+"""Proves and builds the program, as crates/cmwq/out/cmwq, and says on standard error how far it is.
+
+The kit's gate, `rt ci`, proves a copy of the tree, which has the program's crates alone and none of their must-fail edits. It proves crates side by
+side, as far as processors and memory allow. It takes what an earlier `rt ci` on this machine proved of the same files, and keeps each crate that it
+has proved."""
 import os
 import re
+import shutil
+import signal
 import subprocess
 import sys
+import tempfile
 import threading
 
 sys.dont_write_bytecode = True
-sys.path.insert(0, os.path.dirname(os.path.realpath(__file__)))
+sys.path[:0] = [os.path.dirname(os.path.realpath(__file__)), f"{os.path.dirname(os.path.dirname(os.path.realpath(__file__)))}/gate"]
+import crates
 import kit
 
-FOLDER = f"{kit.TOP}/crates/cmwq"
-PROGRAM = f"{FOLDER}/out/cmwq"
-LOG = f"{FOLDER}/out/build.log"
-GOES_ON = re.compile(r"so far: (\d+) of (\d+) functions")
+NAME = "cmwq"
+OUT = f"{kit.TOP}/crates/{NAME}/out"
+LOG = f"{OUT}/build.log"
+DONE = re.compile(r"rt: (\w+) (?:proved$|is kept: )")
+FAILED = re.compile(r"rt: (\w+) NOT PROVED")
+WAITS = "another run on this machine is proving the same"
+# Where `rt ci` keeps what it proved, and how many bytes it leaves free there.
+STORE = f"{os.path.dirname(kit.KIT)}/rattle-kept"
+LEAVES = 5_000 << 20
+
+
+def copy_of(top, name, room):
+    """Copies what a program of the tree is proved from, without its must-fail edits. Returns the names of the crates that it has, lowest first."""
+    every = crates.read(top)
+    names = crates.below(every, name)
+    # (`rt ci` runs at the top of a repository)
+    os.makedirs(f"{room}/.git")
+    with open(f"{room}/crates.txt", "w", encoding="utf-8") as it:
+        it.writelines(f"{every[crate][0]}\n" for crate in names)
+    if os.path.exists(f"{top}/HANDLES"):
+        shutil.copy(f"{top}/HANDLES", room)
+    for crate in names:
+        shutil.copytree(f"{top}/crates/{crate}", f"{room}/crates/{crate}", ignore=lambda at, _: ["out", "must-fail"] if at.endswith(f"/crates/{crate}") else [])
+    return names
+
+
+def being_proved(parent):
+    """Returns the crates that the children of a process prove, by the words that they were started with."""
+    found = set()
+    for process in filter(str.isdigit, os.listdir("/proc")):
+        try:
+            with open(f"/proc/{process}/stat", encoding="utf-8", errors="replace") as it:
+                is_child = it.read().rpartition(")")[2].split()[1] == str(parent)
+            with open(f"/proc/{process}/cmdline", encoding="utf-8", errors="replace") as it:
+                words = it.read().split("\0") if is_child else []
+        except OSError:
+            # (it has ended)
+            continue
+        found.update(words[at + 1] for at, word in enumerate(words[:-1]) if word == "--crate-name")
+    return found
 
 
 class Progress:
-    """Says which crates are being proved, and how far each is, by what `rt` prints: on a terminal in one line that changes."""
+    """Says how many crates are proved, and which are being proved, by what `rt ci` prints: on a terminal in one line that changes."""
 
-    def __init__(self, total, screen):
-        self.total, self.screen, self.done, self.far, self.lock = total, screen, 0, {}, threading.Lock()
+    def __init__(self, names, screen):
+        self.names, self.screen, self.done, self.last, self.lock = names, screen, set(), "", threading.Lock()
 
     def say(self, text, end=""):
         """Says it; with an end, in a line that stays."""
-        is_screen = self.screen.isatty()
-        print(f"\r\x1b[K{text}{end}" if is_screen else f"{text}\n", end="", file=self.screen, flush=True)
-
-    def begin(self, crate):
         with self.lock:
-            self.far[crate] = ""
-            self.tell()
+            is_screen = self.screen.isatty()
+            print(f"\r\x1b[K{text}{end}" if is_screen else f"{text}\n", end="", file=self.screen, flush=True)
 
-    def read(self, crate, line):
-        """Takes a line of `rt`, and says what it tells of the crate."""
-        goes_on = GOES_ON.match(line)
-        if goes_on and self.screen.isatty():
-            with self.lock:
-                self.far[crate] = f" ({goes_on[1]} of {goes_on[2]} functions)"
-                self.tell()
+    def read(self, line):
+        """Takes a line of `rt ci`. Returns whether it says that a crate isn't proved."""
+        if done := DONE.match(line):
+            self.done.add(done[1])
+        if WAITS in line:
+            self.say(f"cmwq: {line.removeprefix('rt: ').rstrip()}", "\n")
+        return bool(FAILED.match(line))
 
-    def end(self, crate):
-        with self.lock:
-            self.done += 1
-            del self.far[crate]
+    def tell(self, running):
+        """Says how far it is, while these crates are being proved, if that is news."""
+        of = [name for name in self.names if name in running and name not in self.done]
+        text = f"{len(self.done)} of {len(self.names)} crates are proved"
+        # (with no crate, one was proved just now, or the next begins)
+        if (of or not self.last.startswith(text)) and f"{text}; {', '.join(of)}" != self.last:
+            self.last = f"{text}; {', '.join(of)}"
+            self.say(self.last if of else text)
 
-    def tell(self):
-        self.say(f"{self.done} of {self.total} crates are proved; {', '.join(f'{crate}{far}' for crate, far in self.far.items())}")
-
-
-def prove(crate, words, progress, log):
-    """Runs the kit's prover on a crate, which keeps what is proved. Returns its status and its last lines."""
-    progress.begin(crate.name)
-    lines = []
-    with subprocess.Popen(words, cwd=crate.folder, stdin=subprocess.DEVNULL, stdout=subprocess.PIPE, stderr=subprocess.STDOUT, text=True, errors="replace") as ran:
-        for line in ran.stdout:
-            log.write(f"{crate.name}: {line}")
-            log.flush()
-            lines = [*lines[-19:], line]
-            progress.read(crate.name, line)
-    progress.end(crate.name)
-    return ran.returncode, lines
+    def watch(self, parent, is_over):
+        """Says each second how far it is, until it is over."""
+        while not is_over.wait(1):
+            self.tell(being_proved(parent))
 
 
-def prove_library(crate, jobs, progress, log):
-    """Proves a library whose own are built, unless it is built already. Returns as `prove` does."""
-    if crate.is_built():
-        progress.begin(crate.name)
-        progress.end(crate.name)
-        return 0, []
-    return prove(crate, ["rt", "lib", *jobs], progress, log)
-
-
-def prove_libraries(crates, progress, log):
-    """Proves the crates, each once those below it are, several at once, one job each; one that nothing else can be proved beside has all
-    processors. Returns the status and the last lines of one that failed, if one did, after those that ran beside it."""
-    below = {it.name: {dep.name for dep in it.below()} for it in crates}
-    waiting, built, failed = {it.name: it for it in crates}, set(), (0, [])
-    with concurrent.futures.ThreadPoolExecutor(len(os.sched_getaffinity(0))) as pool:
-        running = {}
-        try:
-            while not failed[0] and (waiting or running):
-                ready = [name for name in waiting if below[name] <= built]
-                jobs = [] if len(ready) == 1 and not running else ["--jobs", "1"]
-                running.update({pool.submit(prove_library, waiting.pop(name), jobs, progress, log): name for name in ready})
-                for ended in concurrent.futures.wait(running, return_when=concurrent.futures.FIRST_COMPLETED).done:
-                    built.add(running.pop(ended))
-                    failed = ended.result() if ended.result()[0] else failed
-        finally:
-            pool.shutdown(cancel_futures=True)
-    return failed
-
-
-def prove_all(crates, progress):
-    """Proves the crates as far as they aren't yet, and builds the program, which is the last of them."""
-    with open(LOG, "w", encoding="utf-8") as log:
-        failed = prove_libraries(crates[:-1], progress, log)
-        return failed if failed[0] else prove(crates[-1], ["rt", "run", "--", "help"], progress, log)
-
-
-def main():
-    os.makedirs(f"{FOLDER}/out", exist_ok=True)
-    kit.begin(f"{PROGRAM}.begun")
-    crates = kit.crates_below(FOLDER)
-    progress = Progress(len(crates), sys.stderr)
+def prove(room, progress, log, *words):
+    """Runs `rt ci` in a copy of the tree, as far as the first crate that it can't prove. Returns whether all is proved, and the last lines if not."""
+    lines, has_failed, is_over = [], False, threading.Event()
+    how = {"stdin": subprocess.DEVNULL, "stdout": subprocess.PIPE, "stderr": subprocess.STDOUT, "text": True, "errors": "replace"}
+    ran = subprocess.Popen(["rt", "ci", *words], cwd=room, **how)
+    watching = threading.Thread(target=progress.watch, args=(ran.pid, is_over))
+    watching.start()
     try:
-        status, lines = prove_all(crates, progress)
-    except KeyboardInterrupt:
-        progress.say("cmwq: interrupted; what is proved is kept, and ./cmwq --prove goes on from there", "\n")
-        return 130
-    if status or not os.access(PROGRAM, os.X_OK):
-        progress.say(f"{''.join(lines)}cmwq: the program isn't proved; all that `rt` said is in {LOG}", "\n")
-        return 126
-    os.replace(f"{PROGRAM}.begun", f"{PROGRAM}.mark")
+        for line in ran.stdout:
+            log.write(line)
+            log.flush()
+            lines = [line] if line.startswith("== ") else [*lines[-19:], line]
+            if progress.read(line):
+                has_failed = True
+                break
+        else:
+            ran.wait()
+    finally:
+        is_over.set()
+        # (it ends at once, and so does all that it has started)
+        ran.terminate()
+        ran.wait()
+        watching.join()
+    return not has_failed and not ran.returncode, lines
+
+
+def take(room):
+    """Takes the program that was proved, and its object file, which `rt ci` doesn't make where it has kept the program."""
+    for name in (f"{NAME}.o", NAME):
+        made = f"{room}/crates/{NAME}/out/{name}"
+        if os.path.exists(made):
+            shutil.copy2(made, f"{OUT}/{name}.new")
+            os.replace(f"{OUT}/{name}.new", f"{OUT}/{name}")
+        elif os.path.exists(f"{OUT}/{name}"):
+            os.remove(f"{OUT}/{name}")
+    os.replace(f"{OUT}/{NAME}.begun", f"{OUT}/{NAME}.mark")
+
+
+def keeps():
+    """Returns whether `rt ci` keeps what it proves."""
+    at = STORE if os.path.isdir(STORE) else os.path.dirname(STORE)
+    return os.access(at, os.W_OK) and shutil.disk_usage(at).free >= LEAVES
+
+
+def main(with_object=False):
+    """Proves and builds the program. With an object file its own crate is proved anew, since `rt ci` keeps none."""
+    os.makedirs(OUT, exist_ok=True)
+    kit.begin(f"{OUT}/{NAME}.begun")
+    for it in (signal.SIGTERM, signal.SIGHUP):
+        signal.signal(it, lambda number, _: sys.exit(128 + number))
+    with tempfile.TemporaryDirectory(prefix="cmwq-prove-", ignore_cleanup_errors=True) as room, open(LOG, "w", encoding="utf-8") as log:
+        progress = Progress(copy_of(kit.TOP, NAME, room), sys.stderr)
+        if not keeps():
+            progress.say(f"cmwq: the kit can't keep what is proved: {STORE} isn't writable, or has less than 5,000 MB free. An interrupted proof begins anew.", "\n")
+        if with_object:
+            os.makedirs(f"{room}/crates/{NAME}/proofs", exist_ok=True)
+            # (with this file, which nothing reads, the crate is none that was proved before)
+            with open(f"{room}/crates/{NAME}/proofs/object.txt", "w", encoding="utf-8") as it:
+                it.write(os.urandom(16).hex())
+        try:
+            is_proved, lines = prove(room, progress, log)
+        except KeyboardInterrupt:
+            progress.say(f"cmwq: interrupted; {'what is proved is kept, and ./cmwq --prove goes on from there' if keeps() else 'nothing is kept'}", "\n")
+            return 130
+        if not is_proved or not os.access(f"{room}/crates/{NAME}/out/{NAME}", os.X_OK):
+            progress.say(f"{''.join(lines)}cmwq: the program isn't proved; all that `rt` said is in {LOG}", "\n")
+            return 126
+        take(room)
     progress.say("cmwq: proved and built", "\n")
     return 0
 
