@@ -137,7 +137,11 @@ fn push_early(
     };
     let words = early_words(alloc, instr)?;
     told.extend_from_slice(b"line ")?;
-    told.extend_from_slice(Buffer::new().format(number_of_last(text, count, place)).as_bytes())?;
+    told.extend_from_slice(
+        Buffer::new()
+            .format(number_of_last(text, count, place))
+            .as_bytes(),
+    )?;
     told.extend_from_slice(b": ")?;
     told.extend_from_slice(&words)?;
     told.extend_from_slice(b"\n")?;
