@@ -16,7 +16,7 @@ sys.dont_write_bytecode = True
 sys.path.insert(0, os.path.dirname(os.path.realpath(__file__)))
 import hostile
 import test_user_files as user_files
-from making import MOST_TIMES, Actor, Queue, Work, greatest, greatest_queues, image, lines_of, longest, repeated, text
+from making import MOST_TIMES, Actor, Queue, Work, greatest, image, lines_of, longest, repeated, text
 
 SECONDS, MEGABYTES, SLOW = 20, 200, 5
 # What a command may take by the clock.
