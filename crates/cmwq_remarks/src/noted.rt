@@ -121,10 +121,11 @@ impl Place<'_> {
     fn push_steps_note(&self, alloc: Global, told: &mut Vec<u8>) -> Result<(), NoMemory>
         ensures { OnOk result (told.new.items ≡ told.old.items ++ steps_note self.now.scenario.now self.now.file.now self.now.number) }
     {
-        if !has_few_steps(self.scenario) {
+        let scenario = self.scenario;
+        if !has_few_steps(scenario) {
             return Ok(());
         }
-        let sentence = steps_sentence(alloc, self.scenario.steps)?;
+        let sentence = steps_sentence(alloc, scenario.steps)?;
         self.push_line(told, b"steps", &sentence)
     }
 
@@ -144,7 +145,8 @@ impl Place<'_> {
         if !self.lacks_cpu(word, cpu.bytes(), more) {
             return Ok(());
         }
-        let sentence = cpu_sentence(alloc, self.scenario.cpus, word, cpu.bytes())?;
+        let scenario = self.scenario;
+        let sentence = cpu_sentence(alloc, scenario.cpus, word, cpu.bytes())?;
         self.push_line(told, name.bytes(), &sentence)
     }
 

@@ -74,7 +74,8 @@ fn run_remarks<M: Machine>(
 {
     let mut machine = machine;
     let refusals = issue_lines(&mut machine, &actor.lines);
-    let steps = machine.scenario().steps;
+    let scenario = machine.scenario();
+    let steps = scenario.steps;
     let mut told = refusals_told(alloc, task, text, &actor.lines, refusals, steps)?;
     if tells_pending(task) {
         push_early(alloc, &mut told, text, actor.lines.len(), early)?;
