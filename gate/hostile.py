@@ -452,9 +452,9 @@ class Documented:
         self.lines = [(re.compile(self.pattern(line)), int(status)) for line, status in rows]
         # Those of `explore`, which says nothing on standard error then.
         self.silent = {0, *map(int, re.findall(r"^\| [^|]+ \| (\d) \|", section("## Every order of several actors"), re.M))}
-        notes = re.findall(r"^\| `FILE:LINE: note: [A-Z]+: ([^`]+), \.\.` \|", section("## Verdicts"), re.M)
-        self.note = re.compile(rf".*:\d+: note: [a-z0-9_]+: (?:{'|'.join(map(re.escape, notes))}), [^:]+(?:: [^:]+)?")
-        assert len(notes) == 2 and len(self.reasons) >= 12 and len(self.image_reasons) >= 10 and len(self.refusals) >= 15 and len(self.debugger_refusals) >= 7 and len(rows) >= 16 and self.silent == {0, 5, 6}
+        notes = re.findall(r"^\| `FILE:LINE: note: (?:[A-Z]+|steps): ([^`]+[,;]) \.\.` \|", section("## Verdicts"), re.M)
+        self.note = re.compile(rf".*:\d+: note: [a-z0-9_]+: (?:{'|'.join(map(re.escape, notes))}) [^:]+(?:: [^:]+)?")
+        assert len(notes) == 5 and len(self.reasons) >= 12 and len(self.image_reasons) >= 10 and len(self.refusals) >= 15 and len(self.debugger_refusals) >= 7 and len(rows) >= 16 and self.silent == {0, 5, 6}
 
     def pattern(self, line):
         """What such a line of the document stands for."""
@@ -471,7 +471,11 @@ class Documented:
         begins = r"  a line here may begin with: [a-z_]+(?:, [a-z_]+)*|  no line may stand here"
         goes_on = rf"  here may stand: {thing}(?:, {thing})*(?:, or the line's end)?|  the line should end here"
         meant = r"  is (?:[a-z0-9_]+|\*|\* \d+) meant\?"
-        return re.fullmatch(f"{fault}|{begins}|{goes_on}|{meant}", line) is not None or self.is_note(line)
+        form = r"[a-z_]+(?: (?:[A-Z]+|max|FLAG\.\.|\*))*"
+        cure = r"  a comment begins with #, and ends with its line|  flags stand one after another, without WQ_ and \|: queue NAME max N FLAG FLAG"
+        cure += rf"|  a kernel's [A-Za-z_]+ is written here: {form}|  {form}: the (?:word |number )?[A-Za-z]+ is missing"
+        cure += r"|  work ([a-z][a-z0-9_]*) has no body: body \1, its operations and finish stand before the actors"
+        return re.fullmatch(f"{fault}|{begins}|{goes_on}|{meant}|{cure}", line) is not None or self.is_note(line)
 
     def is_note(self, line):
         """Whether `check` says such a line behind a good text's."""

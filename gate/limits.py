@@ -16,7 +16,7 @@ sys.dont_write_bytecode = True
 sys.path.insert(0, os.path.dirname(os.path.realpath(__file__)))
 import hostile
 import test_user_files as user_files
-from making import MOST_TIMES, Actor, Queue, Work, greatest, greatest_queues, image, lines_of, longest, repeated, text
+from making import MOST_TIMES, Actor, Queue, Work, greatest, image, lines_of, longest, repeated, text
 
 SECONDS, MEGABYTES, SLOW = 20, 200, 5
 # What a command may take by the clock.
@@ -558,10 +558,24 @@ def measured(program, room, line, given):
     return Took(used.ru_utime + used.ru_stime, used.ru_maxrss / 1000, ran.returncode, hostile.bytes_of(names[2]), names[1])
 
 
+def notes_on(parts):
+    """The lines of a greatest scenario on which `check` has notes, with each note: each queue has works, some of CPUs, no work queues itself, there are
+    more steps than instructions, and some lines have no count."""
+    for at, it in enumerate(parts["queues"]):
+        if "cpu_intensive" in it.flags and not {"unbound", "ordered"} & set(it.flags):
+            yield 5 + at, f"{it.name}: {SHARED}"
+    for number, line in enumerate(text(**parts).decode().split("\n"), 1):
+        word, _, operand = line.partition(" ")
+        if word in GOALS and "*" not in operand:
+            yield number, f"{word}: without a count it makes at most one move; write {line} * 100 to continue until {GOALS[word].format(operand)}"
+
+
+GOALS = {"quiet": "no work item is pending or running", "until": "tick {}", "wait": "flush {} is done"}
+
+
 def notes_of(*files):
-    """What `check` says of the greatest scenarios: each queue has works, some of CPUs, and no work queues itself."""
-    shared = [(5 + at, it.name) for at, it in enumerate(greatest_queues()) if "cpu_intensive" in it.flags and not {"unbound", "ordered"} & set(it.flags)]
-    return "".join(f"{file}:{line}: note: {name}: {SHARED}\n" for file in files for line, name in shared)
+    """What `check` says of these greatest scenarios."""
+    return "".join(f"{file}:{line}: note: {note}\n" for file in files for line, note in notes_on(greatest(*GREATEST[file])))
 
 
 def cost_faults(line, took):

@@ -68,6 +68,34 @@ FILES = {
     "wide.cmwq": HEAD + "actor one\nbusy * 4000\nactor other\nbusy * 97\n",
     "cancels.cmwq": HEAD + QUEUE + WORKS + BODIES + "actor one\ncancel_sync mail * 1366\n",
     "flushes.cmwq": HEAD + QUEUE + WORKS + BODIES + "actor one\nqueue mail 0\nactor other\ncancel_sync mail\nflush blink\n",
+    # what a driver's author writes
+    "slashes.cmwq": HEAD + QUEUE + WORKS + BODIES + "actor t\nnext // go\n",
+    "stars.cmwq": "cpus 1\n/* workers */\nworkers 2\n",
+    "starred.cmwq": HEAD + QUEUE + WORKS + BODIES + "actor t\nqueue mail 0 /* now */\n",
+    "remark.cmwq": HEAD + QUEUE + WORKS + BODIES + "actor t\nqueue mail // now\n",
+    "call.cmwq": HEAD + QUEUE + WORKS + BODIES + "actor t\nqueue_work(q, &mail);\n",
+    "delayed.cmwq": HEAD + QUEUE + WORKS + BODIES + "actor t\nschedule_delayed_work mail 100\n",
+    "bodily.cmwq": HEAD + QUEUE + WORKS + "body mail\nmod_delayed_work(q, &blink, 5);\n",
+    "returns.cmwq": HEAD + QUEUE + WORKS + "body mail\nreturn;\n",
+    "alloc.cmwq": HEAD + 'alloc_workqueue("q", WQ_UNBOUND, 0);\n',
+    "bars.cmwq": HEAD + "queue q max 4 WQ_MEM_RECLAIM | WQ_FREEZABLE\n",
+    "bar.cmwq": HEAD + "queue q max 4 mem_reclaim | freezable\n",
+    "active.cmwq": HEAD + "queue q max_active 4\n",
+    "bodiless.cmwq": HEAD + QUEUE + WORKS + ACTOR,
+    "second.cmwq": HEAD + QUEUE + WORKS + "body mail\nfinish\n" + ACTOR,
+    "cut.cmwq": HEAD + QUEUE + WORKS + "body mail\nfinish\n",
+    "cpuless.cmwq": HEAD + QUEUE + WORKS + BODIES + "actor t\nqueue mail\n",
+    "tickless.cmwq": HEAD + QUEUE + WORKS + BODIES + "actor t\ndelay mail 0\n",
+    "countless.cmwq": HEAD + QUEUE + WORKS + BODIES + "actor t\nqueue mail 0 *\n",
+    "nameless.cmwq": HEAD + QUEUE + WORKS + BODIES + "actor t\nnext\nactor\n",
+    "workname.cmwq": HEAD + QUEUE + "work e1000_watchdog_handler q\n",
+    "taken.cmwq": HEAD + QUEUE + "work e1000_watchdog_ q\nwork e1000_watchdog_handler q\n",
+    "return.cmwq": "cpus 1\r 2\n",
+    "lone.cmwq": HEAD + QUEUE + WORKS + BODIES + "actor t\nqueue mail 0\nuntil 3\nquiet\n",
+    "waited.cmwq": HEAD + QUEUE + WORKS + BODIES + "actor t\nqueue mail 0\nflush mail\nwait 0\n",
+    "spent.cmwq": "cpus 1\nworkers 2\nsteps 3\nflushes 1\n" + QUEUE + WORKS + BODIES + "actor t\nqueue mail 0\nquiet * 100\n",
+    "absent.cmwq": HEAD + QUEUE + WORKS + BODIES + "actor t\nqueue mail 3\ndelay mail 100 5\nmod mail 1 5 * 2\n",
+    "moved.cmwq": HEAD + QUEUE + WORKS + BODIES + "actor t\nqueue mail 0\nqueue blink 0\nnext\n",
     "there": "what was there\n",
 }
 
@@ -78,6 +106,12 @@ EXTRA_WORD = "  the line has a word too many; an instruction is repeated by `* N
 
 # the words that an operation may begin with
 OPERATIONS = "burn, sleep, queue, delay, mod, cancel, finish"
+
+# the words that a line of an actor may begin with
+INSTRUCTIONS = "queue, delay, mod, cancel, cancel_sync, flush, flush_delayed, flush_queue, set_max, freeze, thaw, fire, step, tick, next, ask, busy, state, disable, enable, pressure, relief, until, wait, quiet, actor"
+
+# what is said of a comment of C
+COMMENT = "  a comment begins with #, and ends with its line"
 
 # A row: the words, the status, the line that tells the fault, and what follows where that is asked for.
 ROWS = [
@@ -111,14 +145,14 @@ ROWS = [
     ("run spelt.cmwq", 1, "line 5: BadWord", f"spelt.cmwq:5:1: quue: BadWord\n  quue q max 1\n  ^\n  a line here may begin with: queue, actor\n  is queue meant?\n{BAD_WORD}"),
     ("run shout.cmwq", 1, "line 5: BadWord", f"shout.cmwq:5:9: MAX: BadWord\n  queue q MAX 1\n          ^\n  here may stand: max\n  is max meant?\n{BAD_WORD}"),
     ("run bare.cmwq", 1, "line 5: BadWord", f"bare.cmwq:5:9: 1: BadWord\n  queue q 1\n          ^\n  here may stand: max\n{BAD_WORD}"),
-    ("run short.cmwq", 1, "line 5: MissingWord", "short.cmwq:5:8: end of line: MissingWord\n  queue q\n         ^\n  here may stand: max\n  the line or the text ends before all is said"),
+    ("run short.cmwq", 1, "line 5: MissingWord", "short.cmwq:5:8: end of line: MissingWord\n  queue q\n         ^\n  here may stand: max\n  queue NAME max N FLAG..: the word max is missing"),
     ("run queues.cmwq", 1, "line 37: TooMany", "queues.cmwq:37:15: 1: TooMany\n  queue q32 max 1\n                ^\n  a line here may begin with: work, actor\n  at most 32 queues, 256 works of 64 operations, 16 actors of 4096 lines"),
     ("run order.cmwq", 1, "line 1: Misplaced", "order.cmwq:1:1: workers: Misplaced\n  workers 2\n  ^\n  a line here may begin with: cpus\n  lines stand in this order: cpus, workers, steps, flushes, queues, works, bodies in the order of their works, actors"),
     ("run later.cmwq", 1, "line 8: Misplaced", "later.cmwq:8:6: blink: Misplaced\n  body blink\n       ^\n  here may stand: mail\n  lines stand in this order: cpus, workers, steps, flushes, queues, works, bodies in the order of their works, actors"),
     ("run open.cmwq", 1, "line 9: Misplaced", f"open.cmwq:9:1: tick: Misplaced\n  tick\n  ^\n  a line here may begin with: {OPERATIONS}\n  the body of mail is open: its operations stand here, and finish ends it"),
     ("run timed.cmwq", 1, "line 9: ExtraWord", f"timed.cmwq:9:15: 0: ExtraWord\n  delay blink 1 0\n                ^\n  the line should end here\n{EXTRA_WORD}"),
     ("run longer.cmwq", 1, "line 9: Range", "longer.cmwq:9:13: 1000001: Range\n  delay blink 1000001\n              ^\n  here may stand: a number from 0 to 1000000\n  the number is out of its limits: here stands a number from 0 to 1000000"),
-    ("run timeless.cmwq", 1, "line 9: MissingWord", "timeless.cmwq:9:10: end of line: MissingWord\n  mod blink\n           ^\n  here may stand: a number from 0 to 1000000\n  the line or the text ends before all is said"),
+    ("run timeless.cmwq", 1, "line 9: MissingWord", "timeless.cmwq:9:10: end of line: MissingWord\n  mod blink\n           ^\n  here may stand: a number from 0 to 1000000\n  mod WORK N: the number N is missing"),
     ("run waiting.cmwq", 1, "line 9: Misplaced", f"waiting.cmwq:9:1: cancel_sync: Misplaced\n  cancel_sync blink\n  ^\n  a line here may begin with: {OPERATIONS}\n  the body of mail is open: its operations stand here, and finish ends it"),
     ("run whom.cmwq", 1, "line 9: Unknown", f"whom.cmwq:9:8: blnk: Unknown\n  cancel blnk\n         ^\n  here may stand: blink, mail\n  is blink meant?\n{UNKNOWN}"),
     ("asm empty.cmwq made.image", 1, "line 1: MissingWord", "empty.cmwq:1:1: end of text: MissingWord\n  a line here may begin with: cpus\n  the line or the text ends before all is said"),
@@ -137,9 +171,32 @@ ROWS = [
     ("run many.cmwq", 1, "line 37: Unknown", f"many.cmwq:37:8: blink: Unknown\n  cancel blink\n         ^\n  here may stand: w0, w1, w2, w3, w4, w5, w6, w7, 2 more\n{UNKNOWN}"),
     ("run other.cmwq", 1, "line 6: Unknown", f"other.cmwq:6:11: p: Unknown\n  work mail p\n            ^\n  here may stand: q\n{UNKNOWN}"),
     ("run limit.cmwq", 1, "line 15: Unknown", f"limit.cmwq:15:9: mail: Unknown\n  set_max mail 1\n          ^\n  here may stand: q\n{UNKNOWN}"),
-    ("run nobody.cmwq", 1, "line 15: MissingWord", "nobody.cmwq:15:7: end of line: MissingWord\n  cancel\n        ^\n  here may stand: mail, blink\n  the line or the text ends before all is said"),
+    ("run nobody.cmwq", 1, "line 15: MissingWord", "nobody.cmwq:15:7: end of line: MissingWord\n  cancel\n        ^\n  here may stand: mail, blink\n  cancel WORK: the WORK is missing"),
     ("run ticks.cmwq", 1, "line 15: ExtraWord", f"ticks.cmwq:15:6: 5: ExtraWord\n  tick 5\n       ^\n  here may stand: *, or the line's end\n  is * 5 meant?\n{EXTRA_WORD}"),
     ("run tail.cmwq", 1, "line 1: ExtraWord", f"tail.cmwq:1:8: 2: ExtraWord\n  cpus 1 2\n         ^\n  the line should end here\n{EXTRA_WORD}"),
+    # what a driver's author writes: the answer says how it is written here
+    ("run slashes.cmwq", 1, "line 15: ExtraWord", f"slashes.cmwq:15:6: //: ExtraWord\n  next // go\n       ^\n  here may stand: *, or the line's end\n{COMMENT}"),
+    ("run stars.cmwq", 1, "line 2: BadWord", f"stars.cmwq:2:1: /*: BadWord\n  /* workers */\n  ^\n  a line here may begin with: workers\n{COMMENT}"),
+    ("run starred.cmwq", 1, "line 15: ExtraWord", f"starred.cmwq:15:14: /*: ExtraWord\n  queue mail 0 /* now */\n               ^\n  here may stand: *, or the line's end\n{COMMENT}"),
+    ("run remark.cmwq", 1, "line 15: BadNumber", f"remark.cmwq:15:12: //: BadNumber\n  queue mail // now\n             ^\n  here may stand: a number from 0 to 255\n{COMMENT}"),
+    ("run call.cmwq", 1, "line 15: BadWord", f"call.cmwq:15:1: queue_work(q,: BadWord\n  queue_work(q, &mail);\n  ^\n  a line here may begin with: {INSTRUCTIONS}\n  a kernel's queue_work is written here: queue WORK CPU"),
+    ("run delayed.cmwq", 1, "line 15: BadWord", f"delayed.cmwq:15:1: schedule_delayed_work: BadWord\n  schedule_delayed_work mail 100\n  ^\n  a line here may begin with: {INSTRUCTIONS}\n  a kernel's schedule_delayed_work is written here: delay WORK CPU N"),
+    ("run bodily.cmwq", 1, "line 9: BadWord", f"bodily.cmwq:9:1: mod_delayed_work(q,: BadWord\n  mod_delayed_work(q, &blink, 5);\n  ^\n  a line here may begin with: {OPERATIONS}\n  a kernel's mod_delayed_work is written here: mod WORK N"),
+    ("run returns.cmwq", 1, "line 9: BadWord", f"returns.cmwq:9:1: return;: BadWord\n  return;\n  ^\n  a line here may begin with: {OPERATIONS}\n  a kernel's return is written here: finish"),
+    ("run alloc.cmwq", 1, "line 5: BadWord", "alloc.cmwq:5:1: alloc_workqueue(\"q\",: BadWord\n  alloc_workqueue(\"q\", WQ_UNBOUND, 0);\n  ^\n  a line here may begin with: queue, actor\n  a kernel's alloc_workqueue is written here: queue NAME max N FLAG.."),
+    ("run bars.cmwq", 1, "line 5: BadWord", "bars.cmwq:5:15: WQ_MEM_RECLAIM: BadWord\n  queue q max 4 WQ_MEM_RECLAIM | WQ_FREEZABLE\n                ^\n  here may stand: mem_reclaim, highpri, unbound, cpu_intensive, freezable, or the line's end\n  flags stand one after another, without WQ_ and |: queue NAME max N FLAG FLAG"),
+    ("run bar.cmwq", 1, "line 5: BadWord", "bar.cmwq:5:27: |: BadWord\n  queue q max 4 mem_reclaim | freezable\n                            ^\n  here may stand: highpri, unbound, cpu_intensive, freezable, or the line's end\n  flags stand one after another, without WQ_ and |: queue NAME max N FLAG FLAG"),
+    ("run active.cmwq", 1, "line 5: BadWord", "active.cmwq:5:9: max_active: BadWord\n  queue q max_active 4\n          ^\n  here may stand: max\n  a kernel's max_active is written here: queue NAME max N FLAG.."),
+    ("run bodiless.cmwq", 1, "line 8: Misplaced", "bodiless.cmwq:8:1: actor: Misplaced\n  actor t\n  ^\n  a line here may begin with: work, body\n  work mail has no body: body mail, its operations and finish stand before the actors"),
+    ("run second.cmwq", 1, "line 10: Misplaced", "second.cmwq:10:1: actor: Misplaced\n  actor t\n  ^\n  a line here may begin with: body\n  work blink has no body: body blink, its operations and finish stand before the actors"),
+    ("run cut.cmwq", 1, "line 10: MissingWord", "cut.cmwq:10:1: end of text: MissingWord\n  a line here may begin with: body\n  work blink has no body: body blink, its operations and finish stand before the actors"),
+    ("run cpuless.cmwq", 1, "line 15: MissingWord", "cpuless.cmwq:15:11: end of line: MissingWord\n  queue mail\n            ^\n  here may stand: a number from 0 to 255\n  queue WORK CPU: the CPU is missing"),
+    ("run tickless.cmwq", 1, "line 15: MissingWord", "tickless.cmwq:15:13: end of line: MissingWord\n  delay mail 0\n              ^\n  here may stand: a number from 0 to 4294967295\n  delay WORK CPU N: the number N is missing"),
+    ("run countless.cmwq", 1, "line 15: MissingWord", "countless.cmwq:15:15: end of line: MissingWord\n  queue mail 0 *\n                ^\n  here may stand: a number from 1 to 65535\n  queue WORK CPU * N: the number N is missing"),
+    ("run nameless.cmwq", 1, "line 16: MissingWord", "nameless.cmwq:16:6: end of line: MissingWord\n  actor\n       ^\n  here may stand: a new name\n  actor NAME: the NAME is missing"),
+    ("run workname.cmwq", 1, "line 6: BadName", "workname.cmwq:6:6: e1000_watchdog_handler: BadName\n  work e1000_watchdog_handler q\n       ^\n  here may stand: a new name\n  is e1000_watchdog_ meant?\n  a name has 1 to 15 small letters, digits and _, and begins with a letter"),
+    ("run taken.cmwq", 1, "line 7: BadName", "taken.cmwq:7:6: e1000_watchdog_handler: BadName\n  work e1000_watchdog_handler q\n       ^\n  here may stand: a new name\n  is e1000_watchdog1 meant?\n  a name has 1 to 15 small letters, digits and _, and begins with a letter"),
+    ("run return.cmwq", 1, "line 1: BadNumber", "return.cmwq:1:6: 1?: BadNumber\n  cpus 1  2\n       ^\n  here may stand: a number from 1 to 16\n  a number has 1 to 10 digits, no sign, and no 0 in front of others"),
     # actors
     ("run two.cmwq", 1, "actors", "  two.cmwq has 2 actors: this command takes one; `cmwq play` and `cmwq explore` take several"),
     ("draw --svg two.cmwq", 1, "actors", "  two.cmwq has 2 actors: this command takes one; `cmwq play` and `cmwq explore` take several"),
@@ -169,8 +226,9 @@ ROWS = [
     ("explore good.cmwq --after t --never q", 1, "no such work", "  no work of good.cmwq is called q; the nearest first: mail, blink"),
     ("explore workless.cmwq --never t", 1, "no such work", "  workless.cmwq has no works"),
     ("explore none.cmwq --stuck", 1, "actors", "  none.cmwq has no actor: `actor NAME` and its instructions are missing at the end"),
-    ("explore good.cmwq --after mail --never t", 1, "no such actor", ""),
-    ("explore two.cmwq --stuck --before t mail", 1, "no such actor", ""),
+    ("explore good.cmwq --after mail --never t", 1, "no such actor", "  no actor of good.cmwq is called mail; the nearest first: t"),
+    ("explore two.cmwq --after othr --never mail", 1, "no such actor", "  no actor of two.cmwq is called othr; the nearest first: other, t"),
+    ("explore two.cmwq --stuck --before t mail", 1, "no such actor", "  no actor of two.cmwq is called mail; the nearest first: t, other"),
     ("explore flushes.cmwq --stuck", 1, "flushes 2 needed", ""),
     ("explore wide.cmwq --stuck", 4, "full", "  the actors have more than 4096 lines in all, each cancel_sync being three"),
     ("explore cancels.cmwq --stuck", 4, "full", "  the actors have more than 4096 lines in all, each cancel_sync being three"),
@@ -208,22 +266,44 @@ MISSAID = [
     ("explore two.cmwq --stuck --limit many", "error: --limit takes a number of 1 to 10 digits, from 1 to 1000000"),
 ]
 
+# what is said of work items that are left, and of lines without a count
+LEFT = "1 work item is pending or running at the end; --settle continues until none is\n"
+UNTIL = "without a count it makes at most one move; write until 3 * 100 to continue until tick 3\n"
+WAIT = "without a count it makes at most one move; write wait 0 * 100 to continue until flush 0 is done\n"
+
 # What is said behind a run that ends well: the words, and the remarks, which stand there only where they are asked for.
 REMARKS = [
-    ("run good.cmwq", ""),
-    ("run refused.cmwq", "2 instructions were refused, the first in line 17\n"),
+    ("run good.cmwq", LEFT),
+    ("run refused.cmwq", f"2 instructions were refused, the first in line 17\n{LEFT}"),
     ("run once.cmwq", "1 instruction was refused, in line 18\n"),
-    ("why refused.cmwq mail", ""),
+    ("why refused.cmwq mail", LEFT),
     ("why pending.cmwq blink", "2 works are pending; --settle goes on until the machine is quiet\n"),
     ("run pending.cmwq", "2 works are pending; --settle goes on until the machine is quiet\n"),
     ("draw pending.cmwq", "2 works are pending; --settle goes on until the machine is quiet\n"),
+    ("run moved.cmwq", "2 work items are pending or running at the end; --settle continues until none is\n"),
+    ("draw moved.cmwq", "2 work items are pending or running at the end; --settle continues until none is\n"),
+    ("run --settle good.cmwq", ""),
+    ("run lone.cmwq", f"line 16: until: {UNTIL}{LEFT}"),
+    ("draw waited.cmwq", f"line 17: wait: {WAIT}{LEFT}"),
+    ("run --settle lone.cmwq", ""),
+    ("run spent.cmwq", f"98 instructions were refused, the first in line 16\n98 instructions were refused as Spent; steps is 3, and a greater number lets the run continue\n{LEFT}"),
+    ("run absent.cmwq", "4 instructions were refused, the first in line 15\n"),
     ("list pending.cmwq", ""),
     ("check pending.cmwq", ""),
 ]
 
+# What is noted of texts that are good: the words, and the notes, whether more is asked for or not.
+NOTES = [
+    ("check lone.cmwq", f"lone.cmwq:16: note: until: {UNTIL}lone.cmwq:17: note: quiet: without a count it makes at most one move; write quiet * 100 to continue until no work item is pending or running\n"),
+    ("check waited.cmwq", f"waited.cmwq:17: note: wait: {WAIT}"),
+    ("check spent.cmwq", "spent.cmwq:3: note: steps: instructions may be refused as Spent; at most 3 are accepted, and the actors have more\n"),
+    ("check absent.cmwq", "".join(f"absent.cmwq:{line}: note: mail: the run refuses its CPU; cpus is 1 and CPUs count from 0, so there is no CPU {cpu}: {form}\n" for line, cpu, form in ((15, 3, "queue WORK CPU"), (16, 100, "delay WORK CPU N"), (17, 1, "mod WORK CPU N")))),
+    ("check good.cmwq", ""),
+]
+
 # What comes by standard input: the words, the text that is there, the status, the fault's line, and what follows where that is asked for.
 STREAMED = [
-    ("run -", "refused.cmwq", 0, "", "2 instructions were refused, the first in line 17\n"),
+    ("run -", "refused.cmwq", 0, "", f"2 instructions were refused, the first in line 17\n{LEFT}"),
     ("list -", "pending.cmwq", 0, "", ""),
     ("draw -", "cpus.cmwq", 1, "line 1: Range\n", "-:1:6: 17: Range\n  cpus 17\n       ^\n  here may stand: a number from 1 to 16\n  the number is out of its limits: here stands a number from 1 to 16\n"),
     ("why - blnk", "good.cmwq", 1, "no such work\n", "  no work of - is called blnk; the nearest first: blink, mail\n"),
@@ -279,6 +359,14 @@ def remarks(program, room):
             yield f"{line}: it ends with {plain[0]} and says {plain[2]!r}, and {asked[2]!r} where that is asked for"
 
 
+def notes(program, room):
+    for line, noted in NOTES:
+        for words in (line.split(), ["--explain", *line.split()]):
+            ran = said(program, room, words)
+            if ran != (0, f"{words[-1]}: ok\n", noted):
+                yield f"{' '.join(words)}: it ends with {ran} in place of {noted!r}"
+
+
 def streamed(program, room):
     for line, name, status, fault, more in STREAMED:
         for option, wanted in (([], fault), (["--explain"], fault + more)):
@@ -292,8 +380,8 @@ def streamed(program, room):
 def main(program):
     with tempfile.TemporaryDirectory() as room:
         make(room, program)
-        found = [*faults(program, room), *missaid(program, room), *remarks(program, room), *streamed(program, room)]
-    count = len(ROWS) + len(MISSAID) + len(REMARKS) + len(STREAMED)
+        found = [*faults(program, room), *missaid(program, room), *remarks(program, room), *notes(program, room), *streamed(program, room)]
+    count = len(ROWS) + len(MISSAID) + len(REMARKS) + len(NOTES) + len(STREAMED)
     print("".join(f"{it}\n" for it in found) + f"test_advice: {count} command lines of people, each with advice and without, {len(found)} otherwise", flush=True)
     return bool(found)
 

@@ -340,6 +340,10 @@ def check_documented():
         (3, b"a.cmwq: read\n", True),
         (0, b"a.cmwq:9: note: m: beside its works others start, and burn late\n", True),
         (0, b"a.cmwq:9: note: m: beside its works none starts, and burns late\n", False),
+        (0, b"a.cmwq:9: note: quiet: without a count it makes at most one move; write quiet * 100 to continue until no work item is pending or running\n", True),
+        (0, b"a.cmwq:9: note: quiet: without a count it makes two moves; write quiet * 100 to continue until no work item is pending or running\n", False),
+        (1, b"a.cmwq:2:8: end of line: MissingWord\n  here may stand: a number from 1 to 64\n  workers N: the number N is missing\n", True),
+        (1, b"a.cmwq:2:8: end of line: MissingWord\n  here may stand: a number from 1 to 64\n  workers N: it is missing\n", False),
         (0, b"a.cmwq: read\n", False),
         (3, b"a.cmwq: read\nb.cmwq:60: note: a: cancel_sync lets it queue itself again, and a kernel's doesn't\n", True),
     ]:

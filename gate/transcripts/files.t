@@ -189,6 +189,7 @@ A faulty image, and a text in place of an image.
   2|  here may stand: a number from 1 to 64
   2|checks/c.cmwq:2:8: end of line: MissingWord
   2|  here may stand: a number from 1 to 64
+  2|  workers N: the number N is missing
   2|checks/d.cmwq:6:1: quue: BadWord
   2|  a line here may begin with: queue, work, actor
   2|  is queue meant?
@@ -199,6 +200,24 @@ A faulty image, and a text in place of an image.
   2|checks/g.cmwq:8:11: 5: ExtraWord
   2|  the line should end here
   [3]
+
+A carriage return within a line is part of its word. What is said of C and of a kernel's words stands in place of what is meant.
+  $ printf 'cpus 1\r 2\n' > checks/h.txt
+  $ printf 'cpus 1\r # one\n' > checks/i.txt
+  $ printf 'cpus 1 /* one */\n' > checks/j.txt
+  $ printf 'cpus 1\nworkers 1\nsteps 1\nflushes 0\nqueue q max_active 1\n' > checks/k.txt
+  $ cmwq check checks/?.txt
+  2|checks/h.txt:1:6: 1?: BadNumber
+  2|  here may stand: a number from 1 to 16
+  2|checks/i.txt:1:6: 1?: BadNumber
+  2|  here may stand: a number from 1 to 16
+  2|checks/j.txt:1:8: /*: ExtraWord
+  2|  the line should end here
+  2|  a comment begins with #, and ends with its line
+  2|checks/k.txt:5:9: max_active: BadWord
+  2|  here may stand: max
+  2|  a kernel's max_active is written here: queue NAME max N FLAG..
+  [1]
 
 At a terminal each fault's line is shown, with a caret, and the reason is red. Standard output is a file here.
   $ export TERM=xterm NO_COLOR=
@@ -212,6 +231,7 @@ At a terminal each fault's line is shown, with a caret, and the reason is red. S
     workers 
            ^
     here may stand: a number from 1 to 64
+    workers N: the number N is missing
   checks/d.cmwq:6:1: quue: \x1b[1;31mBadWord\x1b[0m (esc)
     quue
     ^

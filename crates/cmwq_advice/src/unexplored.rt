@@ -13,11 +13,7 @@ use std::alloc::Global;
 
 /// Returns what can be done about an exploration of this text that names an actor that isn't declared: a line that lists the actors. It is empty where each is
 /// declared, and for other requests. It fails only for want of memory.
-pub fn on_unexplored(
-    alloc: Global,
-    request: &Request<'_>,
-    text: &[u8],
-) -> Result<Vec<u8>, NoMemory>
+pub fn on_unexplored(alloc: Global, request: &Request<'_>, text: &[u8]) -> Result<Vec<u8>, NoMemory>
     ensures { IfOk result (λ told. IsOnUnexplored request.now text.now told.items) }
 {
     let Request::Explore { file, exploration } = request else {
@@ -59,10 +55,7 @@ fn actor_names(alloc: Global, scenario: &Scenario) -> Result<Vec<&[u8]>, NoMemor
 }
 
 /// Returns the actors that the exploration names, in the order in which they are looked up.
-fn actors_asked<'a>(
-    alloc: Global,
-    exploration: &Exploration<'a>,
-) -> Result<Vec<&'a [u8]>, NoMemory>
+fn actors_asked<'a>(alloc: Global, exploration: &Exploration<'a>) -> Result<Vec<&'a [u8]>, NoMemory>
     ensures { IfOk result (λ names. map (λ name. name.now) names.items ≡ actors_asked exploration.now) }
 {
     let mut names = actor_forbidden(alloc, exploration.never)?;

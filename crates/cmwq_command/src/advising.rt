@@ -151,7 +151,11 @@ fn remarks_on_file<F: FileStore>(
 }
 
 /// The text of the file: what is kept of it, and else what can be read. The only error is want of memory.
-pub(crate) fn text_of<F: FileStore>(alloc: Global, files: &F, file: &str) -> Result<Option<Vec<u8>>, PlayError>
+pub(crate) fn text_of<F: FileStore>(
+    alloc: Global,
+    files: &F,
+    file: &str,
+) -> Result<Option<Vec<u8>>, PlayError>
     ensures text { IfOk result (λ text. IsTextIn (F.bytes files.now) file.now (option_map (λ bytes. bytes.items) text)) }
     ensures why { IfErr result (λ error. error ≡ PlayError.NoMemory) }
 {

@@ -75,3 +75,28 @@ intensive_without_works = record beside { works = work (codes "a") 0 (op.Finish 
 
 abbrev pub intensive_alone : ScenarioContents
 intensive_alone = record beside { works = work (codes "b") 1 (op.Finish ∷ []) ∷ [] }
+
+-- What is told of works that are left, of a line that ended too early, and of spent steps.
+
+abbrev pub one_left : List ℕ
+one_left = codes "1 work item is pending or running at the end; --settle continues until none is\n"
+
+abbrev pub two_left : List ℕ
+two_left = codes "2 work items are pending or running at the end; --settle continues until none is\n"
+
+abbrev pub quiet_in_line_5 : List ℕ
+quiet_in_line_5 = codes "line 5: quiet: without a count it makes at most one move; write quiet * 100 to continue until no work item is pending or running\n"
+
+abbrev pub two_spent : List ℕ
+two_spent = codes "2 instructions were refused as Spent; steps is 1, and a greater number lets the run continue\n"
+
+abbrev pub one_step : ScenarioContents
+one_step = record beside { steps = 1 }
+
+-- an actor of these lines
+abbrev pub with_actor : List Line → ScenarioContents
+with_actor lines = record beside { actors = record { name = codes "t"; lines = lines } ∷ [] }
+
+-- Lines that do less than they seem to, and others that are like them.
+abbrev pub trapping : List ℕ
+trapping = codes "steps 9\nqueue q max 1\nqueue a 1\ndelay a 5\ndelay a 5 0\nquiet\nquiet * 3\nuntil 5\nwait 0\n"

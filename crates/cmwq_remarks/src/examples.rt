@@ -1,10 +1,11 @@
 //! Worked examples of the definitions, as theorems.
 ghost use Rattle.cmwq_examples.specs.Declare.{enqueue, ordered, times, unbound};
 ghost use Rattle.cmwq_grammar.specs.Cutting.{lines_of};
-ghost use Rattle.cmwq_remarks.specs.Examples.{intensive_alone, beside, body_with, declared_and_cancelled, five_lines, four_lines, intensive_queue, one_pending, queued_and_thawed, refused_twice, remarks_behind, three_lines, two_refused, intensive_without_works};
+ghost use Rattle.cmwq_remarks.specs.Examples.{intensive_alone, beside, body_with, declared_and_cancelled, five_lines, four_lines, intensive_queue, one_left, one_pending, one_step, queued_and_thawed, quiet_in_line_5, refused_twice, remarks_behind, three_lines, trapping, two_left, two_refused, two_spent, intensive_without_works, with_actor};
 ghost use Rattle.cmwq_remarks.specs.LineNumbers.{line_at, number_from, number_of_last};
 ghost use Rattle.cmwq_remarks.specs.Notes.{is_intensive_beside, notes_from, queues_itself};
 ghost use Rattle.cmwq_remarks.specs.Remarks.{first_refusal, pending_line, refusal_count, refused_line, remarks_of};
+ghost use Rattle.cmwq_remarks.specs.Traps.{has_few_steps};
 ghost use Rattle.cmwq_drawing.specs.declared.drawing.Drawing.{Drawing};
 ghost use Rattle.cmwq_question.specs.declared.question.Inquiry.{Inquiry};
 ghost use Rattle.cmwq_tasks.specs.declared.task.RunKind.TheVariants as kind;
@@ -60,10 +61,32 @@ pub fn remarks_follow_their_task()
     ensures settled_text { remarks_behind task.Settle queued_and_thawed ≡ [] }
 {}
 
-/// Where the actor lets the machine move it isn't told what is pending; and nothing is told of a scenario of several actors.
-pub fn actor_that_lets_it_move_is_told_of_no_work()
-    ensures moves { remarks_behind (task.Run kind.Plain) (enqueue 0 0 ∷ enqueue 1 0 ∷ times instr.Next 1 ∷ []) ≡ [] }
+/// Where the actor lets the machine move, works that run count too; and nothing is told of a scenario of several actors.
+pub fn works_that_run_are_left_too()
+    ensures moves { remarks_behind (task.Run kind.Plain) (enqueue 0 0 ∷ enqueue 1 0 ∷ times instr.Next 1 ∷ []) ≡ two_left }
+    ensures settled { remarks_behind (task.Run kind.Settled) (enqueue 0 0 ∷ enqueue 1 0 ∷ times instr.Next 1 ∷ []) ≡ [] }
     ensures actors { remarks_of (task.Run kind.Plain) five_lines beside [] ≡ [] }
+{}
+
+/// A `quiet` without a count is told if a work is still there behind it; one with a count isn't, nor one behind which nothing is left.
+pub fn lines_that_end_early_are_told()
+    ensures early { remarks_behind (task.Run kind.Plain) (enqueue 0 0 ∷ times instr.Quiet 1 ∷ []) ≡ quiet_in_line_5 ++ one_left }
+    ensures counted { remarks_behind (task.Run kind.Plain) (enqueue 0 0 ∷ times instr.Quiet 2 ∷ []) ≡ one_left }
+    ensures done { remarks_behind (task.Run kind.Plain) (times instr.Quiet 1 ∷ []) ≡ [] }
+    ensures settled { remarks_behind (task.Run kind.Settled) (enqueue 0 0 ∷ times instr.Quiet 1 ∷ []) ≡ [] }
+{}
+
+/// Where one step is there, both of two `next` behind a `queue` are refused as Spent.
+pub fn spent_steps_are_told()
+    ensures { remarks_of (task.Run kind.Plain) five_lines one_step (record { name = codes "t"; lines = enqueue 0 0 ∷ times instr.Next 2 ∷ [] } ∷ [])
+        ≡ two_refused ++ two_spent ++ one_left }
+{}
+
+/// Steps are few if the actors have more instructions, questions aside.
+pub fn steps_are_few_for_more_instructions()
+    ensures few { has_few_steps (with_actor (enqueue 0 0 ∷ times instr.Next 9 ∷ [])) ≡ true }
+    ensures enough { has_few_steps (with_actor (enqueue 0 0 ∷ times instr.Next 8 ∷ [])) ≡ false }
+    ensures questions { has_few_steps (with_actor (enqueue 0 0 ∷ times instr.Busy 100 ∷ [])) ≡ false }
 {}
 
 /// Nothing is noted of a CPU-intensive queue without works, nor where its works have the CPUs for themselves, or need none.
@@ -90,4 +113,10 @@ pub fn bodies_that_delay_themselves_queue_themselves()
 pub fn notes_stand_at_their_lines()
     ensures { notes_from beside (codes "f") 1 (lines_of declared_and_cancelled)
         ≡ codes "f:2: note: c: beside its works others start, and burn only once these sleep or are done: a CPU takes turns here, and a kernel's is shared\nf:4: note: a: cancel_sync lets it queue itself again, and a kernel's doesn't; disable, flush and enable do as a kernel's\n" }
+{}
+
+/// A CPU that isn't there is noted in lines of actors, and a line without a count; the ticks of a body's `delay` aren't, nor a queue that is declared.
+pub fn traps_are_noted_at_their_lines()
+    ensures { notes_from beside (codes "f") 1 (lines_of trapping)
+        ≡ codes "f:3: note: a: the run refuses its CPU; cpus is 1 and CPUs count from 0, so there is no CPU 1: queue WORK CPU\nf:5: note: a: the run refuses its CPU; cpus is 1 and CPUs count from 0, so there is no CPU 5: delay WORK CPU N\nf:6: note: quiet: without a count it makes at most one move; write quiet * 100 to continue until no work item is pending or running\nf:8: note: until: without a count it makes at most one move; write until 5 * 100 to continue until tick 5\nf:9: note: wait: without a count it makes at most one move; write wait 0 * 100 to continue until flush 0 is done\n" }
 {}

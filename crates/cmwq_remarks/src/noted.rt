@@ -8,9 +8,7 @@ ghost use Rattle.std.specs.List.{list_any};
 ghost use Rattle.std.specs.Prelude.{◌≡◌, ◌<◌, ◌≤◌, ◌++◌, ◌&&◌, IfOk, IfSome, OnOk, codes, length, not, option_map};
 ghost use Rattle.std.specs.Str.{bytes_eq};
 
-use crate::traps::{
-    cpu_sentence, has_few_steps, is_cpu, steps_sentence, uncounted, wants_cpu,
-};
+use crate::traps::{cpu_sentence, has_few_steps, is_cpu, steps_sentence, uncounted, wants_cpu};
 use cmwq_asm::{AsmError, assemble};
 use cmwq_scan::{Token, Tokens, is_word, next_line, next_word, read_tokens, worded_part};
 use cmwq_types::{Flags, NoMemory, Op, Scenario};
@@ -123,10 +121,11 @@ impl Place<'_> {
     fn push_steps_note(&self, alloc: Global, told: &mut Vec<u8>) -> Result<(), NoMemory>
         ensures { OnOk result (told.new.items ≡ told.old.items ++ steps_note self.now.scenario.now self.now.file.now self.now.number) }
     {
-        if !has_few_steps(self.scenario) {
+        let scenario = self.scenario;
+        if !has_few_steps(scenario) {
             return Ok(());
         }
-        let sentence = steps_sentence(alloc, self.scenario.steps)?;
+        let sentence = steps_sentence(alloc, scenario.steps)?;
         self.push_line(told, b"steps", &sentence)
     }
 
@@ -146,7 +145,8 @@ impl Place<'_> {
         if !self.lacks_cpu(word, cpu.bytes(), more) {
             return Ok(());
         }
-        let sentence = cpu_sentence(alloc, self.scenario.cpus, word, cpu.bytes())?;
+        let scenario = self.scenario;
+        let sentence = cpu_sentence(alloc, scenario.cpus, word, cpu.bytes())?;
         self.push_line(told, name.bytes(), &sentence)
     }
 
@@ -182,7 +182,7 @@ impl Place<'_> {
         ensures { OnOk result (told.new.items ≡ told.old.items ++ sync_note self.now.scenario.now self.now.file.now self.now.number name.now (work_named self.now.scenario.now name.now)) }
     {
         match work_named(self.scenario, name) {
-            Some(w) if queues_itself(self.scenario, w) => self.push_line(told, name, SYNC.as_bytes()),
+            Some(w) if queues_itself(self.scenario, w) => self.push_line(told, name, SYNC),
             _ => Ok(()),
         }
     }
@@ -194,7 +194,7 @@ impl Place<'_> {
     {
         match queue_named(self.scenario, name) {
             Some(queue) if is_intensive_beside(self.scenario, queue as u8) => {
-                self.push_line(told, name, INTENSIVE.as_bytes())
+                self.push_line(told, name, INTENSIVE)
             }
             _ => Ok(()),
         }
@@ -224,11 +224,11 @@ impl Place<'_> {
     }
 }
 
-const SYNC: &str =
-    "cancel_sync lets it queue itself again, and a kernel's doesn't; disable, flush and enable do as a kernel's";
+const SYNC: &[u8] =
+    b"cancel_sync lets it queue itself again, and a kernel's doesn't; disable, flush and enable do as a kernel's";
 
-const INTENSIVE: &str =
-    "beside its works others start, and burn only once these sleep or are done: a CPU takes turns here, and a kernel's is shared";
+const INTENSIVE: &[u8] =
+    b"beside its works others start, and burn only once these sleep or are done: a CPU takes turns here, and a kernel's is shared";
 
 /// Whether the next word is `max`.
 fn begins_with_max(rest: &[u8]) -> bool

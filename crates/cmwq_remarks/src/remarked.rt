@@ -5,7 +5,7 @@ ghost use Rattle.cmwq_table.specs.State.{start};
 ghost use Rattle.cmwq_types.specs.Faults.{IsValid};
 ghost use Rattle.cmwq_types.specs.Scenario.{expand};
 ghost use Rattle.cmwq_types.specs.declared.limits.TheConstants.{MAX_HISTORY, MAX_LINES};
-ghost use Rattle.std.specs.Prelude.{◌≡◌, ◌≤◌, ◌<◌, ◌^◌, ◌++◌, [], IfOk, IfSome, OnOk, if◌then◌else◌, length, string_bytes};
+ghost use Rattle.std.specs.Prelude.{◌≡◌, ◌≤◌, ◌<◌, ◌++◌, [], IfOk, IfSome, OnOk, if◌then◌else◌, length, string_bytes};
 
 use crate::line_numbers::{count_worded, line_at, number_of_last};
 use crate::pending::{left_count, lets_move, pending_count};
@@ -69,11 +69,13 @@ fn run_remarks<M: Machine>(
     requires few { length actor.now.lines ≤ MAX_LINES }
     requires start { M.state machine ≡ start (M.loaded machine) }
     requires early { early ≡ first_early (M.loaded machine) (start (M.loaded machine)) 0 actor.now.lines }
+    requires within { IfSome early (λ early. early.0 < length actor.now.lines) }
     ensures { IfOk result (λ told. told.items ≡ run_remarks task.entry text.now (M.loaded machine) actor.now) }
 {
     let mut machine = machine;
     let refusals = issue_lines(&mut machine, &actor.lines);
-    let steps = machine.scenario().steps;
+    let scenario = machine.scenario();
+    let steps = scenario.steps;
     let mut told = refusals_told(alloc, task, text, &actor.lines, refusals, steps)?;
     if tells_pending(task) {
         push_early(alloc, &mut told, text, actor.lines.len(), early)?;
@@ -129,7 +131,8 @@ fn push_early(
     count: usize,
     early: Option<(usize, Instr)>,
 ) -> Result<(), NoMemory>
-    requires { IfSome early (λ early. early.0 < 2 ^ 32) }
+    requires within { IfSome early (λ early. early.0 < count) }
+    requires few { count ≤ MAX_LINES }
     ensures { OnOk result (told.new.items ≡ told.old.items ++ early_text text.now count early) }
 {
     let Some((place, instr)) = early else {
@@ -137,7 +140,11 @@ fn push_early(
     };
     let words = early_words(alloc, instr)?;
     told.extend_from_slice(b"line ")?;
-    told.extend_from_slice(Buffer::new().format(number_of_last(text, count, place)).as_bytes())?;
+    told.extend_from_slice(
+        Buffer::new()
+            .format(number_of_last(text, count, place))
+            .as_bytes(),
+    )?;
     told.extend_from_slice(b": ")?;
     told.extend_from_slice(&words)?;
     told.extend_from_slice(b"\n")?;

@@ -2,7 +2,7 @@
 ghost use Rattle.cmwq_remarks.specs.Traps.{count_sentence, cpu_form, cpu_sentence, early_words, first_early, goes_on_for, has_few_steps, is_cpu, is_early, left_by, left_by_actor, left_by_actors, line_cost, quiet_sentence, steps_sentence, uncounted, until_sentence, wait_sentence, wants_cpu};
 ghost use Rattle.cmwq_scan.specs.Words.{words_in};
 ghost use Rattle.std.specs.Fmt.{decimal};
-ghost use Rattle.std.specs.Prelude.{◌≡◌, ◌++◌, IfOk, Some, option_map};
+ghost use Rattle.std.specs.Prelude.{◌≡◌, ◌<◌, ◌++◌, IfOk, IfSome, Some, length, option_map};
 ghost use Rattle.std.specs.Str.{bytes_eq};
 
 use cmwq_reads::{is_met, is_question};
@@ -82,7 +82,7 @@ fn joined(alloc: Global, front: &[u8], middle: &[u8], end: &[u8]) -> Result<Vec<
 pub(crate) fn is_cpu(scenario: &Scenario, word: &[u8]) -> bool
     ensures { result ≡ is_cpu scenario.now word.now }
 {
-    let mut count = 0;
+    let mut count: u32 = 0;
     for cpu in 0..scenario.cpus {
         if is_number(word, cpu) {
             count += 1;
@@ -209,13 +209,16 @@ pub(crate) fn steps_sentence(alloc: Global, steps: u32) -> Result<Vec<u8>, NoMem
 /// Carries out the lines on the machine, up to the first that has no count and ends before what it goes on for has come. Returns that line's number and its
 /// instruction.
 pub(crate) fn first_early<M: Machine>(machine: &mut M, lines: &[Line]) -> Option<(usize, Instr)>
-    ensures { result ≡ first_early (M.loaded machine.old) (M.state machine.old) 0 lines.now }
+    ensures early { result ≡ first_early (M.loaded machine.old) (M.state machine.old) 0 lines.now }
+    ensures within { IfSome result (λ early. early.0 < length lines.now) }
 {
-    for number in 0..lines.len() {
-        issue_all(machine, &lines[number..number + 1]);
-        if is_early(machine, lines[number]) {
-            return Some((number, lines[number].instr));
+    let mut number = 0;
+    for line in lines {
+        issue_all(machine, &[*line]);
+        if is_early(machine, *line) {
+            return Some((number, line.instr));
         }
+        number += 1;
     }
     None
 }

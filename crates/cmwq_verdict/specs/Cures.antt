@@ -94,13 +94,13 @@ abbrev pub missing_cure : Next → (words : List (List ℕ)) → Option (List �
 missing_cure next [] = None
 missing_cure next (first ∷ others) = option_map (λ form. missing_in (length others + 1) form) (form_at next first)
 
-module _ (text : List ℕ) (fault : FaultAt) (next : Next) (place : FaultPlace) where
+module _ (text : List ℕ) (fault : FaultAt) (next : Next) (seen : FaultPlace) where
   abbrev pub words_before : List (List ℕ)
-  words_before = words_of (line_before text fault (column_of_place place))
+  words_before = words_of (line_before text fault (column_of_place seen))
 
   -- the lines from the place on
   abbrev pub lines_from : List (List ℕ)
-  lines_from = lines_of (drop (length (text_before text fault (column_of_place place))) text)
+  lines_from = lines_of (drop (length (text_before text fault (column_of_place seen))) text)
 
   abbrev pub word_cure : Why → (word : List ℕ) → Option (List ℕ)
   word_cure whys.BadWord word = or_else (kernel_cure next word) (bar_cure next (not (is_empty words_before)) (has_bar lines_from))

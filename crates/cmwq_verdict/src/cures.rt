@@ -111,8 +111,8 @@ fn bad_word_cure(
     requires { fault.line ≢ 0 }
     ensures { IfOk result (λ words. option_map (λ words. words.items) words
         ≡ or_else (kernel_cure next word.now) (bar_cure next
-            (not (is_empty (words_of (line_before text.now (fault_at fault.line fault.why) column))))
-            (has_bar (lines_of (drop (length (text_before text.now (fault_at fault.line fault.why) column)) text.now))))) }
+        (not (is_empty (words_of (line_before text.now (fault_at fault.line fault.why) column))))
+        (has_bar (lines_of (drop (length (text_before text.now (fault_at fault.line fault.why) column)) text.now))))) }
 {
     if let Some(words) = kernel_cure(alloc, next, word)? {
         return Ok(Some(words));
@@ -209,11 +209,7 @@ fn bodiless<'t>(alloc: Global, lines: &'t [u8]) -> Result<Option<&'t [u8]>, NoMe
 }
 
 /// Returns the second words of the lines that begin with this one.
-fn names_in<'t>(
-    alloc: Global,
-    first: &[u8],
-    lines: &'t [u8],
-) -> Result<Vec<&'t [u8]>, NoMemory>
+fn names_in<'t>(alloc: Global, first: &[u8], lines: &'t [u8]) -> Result<Vec<&'t [u8]>, NoMemory>
     ensures { IfOk result (λ names. map (λ name. name.now) names.items ≡ names_in first.now lines.now) }
 {
     let mut names = Vec::new(alloc);

@@ -2,6 +2,9 @@
 ghost use Rattle.cmwq_fitting.specs.declared.numbers.Limits.{Limits};
 ghost use Rattle.cmwq_grammar.specs.declared.why.Why.TheVariants as why;
 ghost use Rattle.cmwq_types.specs.declared.check.Fault.TheVariants as fault;
+ghost use Rattle.cmwq_grammar.specs.declared.next.Next.TheVariants as next;
+ghost use Rattle.cmwq_verdict.specs.Cures.{bodiless, missing_cure};
+ghost use Rattle.cmwq_verdict.specs.Forms.{kernel_form};
 ghost use Rattle.cmwq_verdict.specs.Hints.{limits_text, meant_first, meant_line, stand_line, things_list, words_told};
 ghost use Rattle.cmwq_verdict.specs.Mending.{why_sentence};
 ghost use Rattle.cmwq_verdict.specs.WordPlaces.{is_begun_with};
@@ -51,4 +54,32 @@ pub fn reasons_have_their_sentences()
     ensures in_body { why_sentence (codes "tick") None (Some (codes "mail")) why.Misplaced
         ≡ codes "  the body of mail is open: its operations stand here, and finish ends it\n" }
     ensures no_end { why_sentence (codes "actor") None (Some (codes "mail")) (why.Fault fault.BadBody) ≡ codes "  the body of mail lacks the finish that ends it\n" }
+{}
+
+/// A kernel's word is written as its place wants it: in a body `mod` has no CPU, and nothing stands for a flush.
+pub fn kernel_words_are_written_so()
+    ensures call { kernel_form (next.Instruction true true true true) (codes "queue_work(q,") ≡ Some (codes "queue WORK CPU") }
+    ensures alone { kernel_form (next.Instruction true true true true) (codes "flush_workqueue") ≡ Some (codes "flush_queue QUEUE") }
+    ensures in_body { kernel_form (next.Operation true) (codes "mod_delayed_work") ≡ Some (codes "mod WORK N") }
+    ensures ends_body { kernel_form (next.Operation true) (codes "return;") ≡ Some (codes "finish") }
+    ensures no_operation { kernel_form (next.Operation true) (codes "flush_work") ≡ None }
+    ensures declared { kernel_form (next.Declaration true true) (codes "max_active") ≡ Some (codes "queue NAME max N FLAG..") }
+    ensures too_early { kernel_form (next.Declaration true true) (codes "queue_work") ≡ None }
+    ensures own { kernel_form (next.Instruction true true true true) (codes "queue") ≡ None }
+{}
+
+/// The operand that is missing is told by how many words are there; behind `*` it is the number of times.
+pub fn missing_operands_are_told()
+    ensures cpu { missing_cure (next.Instruction true true true true) (codes "queue" ∷ codes "a" ∷ []) ≡ Some (codes "queue WORK CPU: the CPU is missing") }
+    ensures times { missing_cure (next.Instruction true true true true) (codes "next" ∷ codes "*" ∷ []) ≡ Some (codes "next * N: the number N is missing") }
+    ensures ticks { missing_cure (next.Operation true) (codes "burn" ∷ []) ≡ Some (codes "burn N: the number N is missing") }
+    ensures max { missing_cure (next.Declaration true true) (codes "queue" ∷ codes "q" ∷ []) ≡ Some (codes "queue NAME max N FLAG..: the word max is missing") }
+    ensures nothing { missing_cure next.Cpus [] ≡ None }
+{}
+
+/// The first work whose body isn't begun has none; where each has one, none is told.
+pub fn works_without_a_body_are_told()
+    ensures first { bodiless (codes "work a q\nwork b q\n") ≡ Some (codes "a") }
+    ensures second { bodiless (codes "work a q\nwork b q\nbody a\nfinish\n") ≡ Some (codes "b") }
+    ensures none { bodiless (codes "work a q\nbody a\nfinish\n") ≡ None }
 {}
