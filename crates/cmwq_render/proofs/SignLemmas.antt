@@ -121,14 +121,14 @@ plain-from works given w (work ∷ others) h all =
     shorter e = omega arith
 
 none-among : (q : ℕ → Bool) (m : ℕ) (cs : List ℕ) → q m ≡ false → list_all q cs ≡ true → list_any (λ (letter : ℕ). eqb letter m) cs ≡ false
-none-among q m [] no all = refl
-none-among q m (x ∷ xs) no all = by (eqb x m) refl (none-among q m xs no (right-of (q x) (list_all q xs) all))
+none-among q m [] fails all = refl
+none-among q m (x ∷ xs) fails all = by (eqb x m) refl (none-among q m xs fails (right-of (q x) (list_all q xs) all))
   where
     rest : Bool
     rest = list_any (λ (letter : ℕ). eqb letter m) xs
 
     by : (b : Bool) → eqb x m ≡ b → rest ≡ false → (b || rest) ≡ false
-    by true e others = absurd (true≢false (sym (left-of (q x) (list_all q xs) all) ∙ ap q (eqb-true x m e) ∙ no))
+    by true e others = absurd (true≢false (sym (left-of (q x) (list_all q xs) all) ∙ ap q (eqb-true x m e) ∙ fails))
     by false e others = others
 
 no-plain : (s : Sign) → is_plain (sign_mark s) ≡ false
@@ -144,6 +144,9 @@ pub none_is_sign : NoneIsASign
 unfolding NoneIsASign
 none_is_sign S s h = by (leb (length S.works) 62) refl
   where
+    none-yet : length S.works ≤ 61 → 0 + length S.works ≤ 61
+    none-yet few = omega (arith, few)
+
     by : (b : Bool) → leb (length S.works) 62 ≡ b → list_any (λ (letter : ℕ). eqb letter (sign_mark s)) (cond b (letters_from S.works [] 0 S.works) []) ≡ false
-    by true e = none-among is_plain (sign_mark s) (letters_from S.works [] 0 S.works) (no-plain s) (plain-from S.works [] 0 S.works h refl)
+    by true e = none-among is_plain (sign_mark s) (letters_from S.works [] 0 S.works) (no-plain s) (plain-from S.works [] 0 S.works (none-yet h) refl)
     by false e = refl
