@@ -25,16 +25,16 @@ swapped m n = by (eqb m n) (eqb n m) refl refl
 shared : (x y z : ℕ) → eqb x y ≡ true → eqb x z ≡ eqb y z
 shared x y z e = ap (λ (n : ℕ). eqb n z) (eqb-true x y e)
 
-numbers : IsEquivalence eqb
+pub numbers : IsEquivalence eqb
 numbers = record { refl = λ n. eq-eqb n n refl; symm = swapped; congr = shared }
 
 -- whether the letter is one of these
-has-flipped : (c : ℕ) (cs : List ℕ) → list_any (λ (letter : ℕ). eqb letter c) cs ≡ list_any (eqb c) cs
+pub has-flipped : (c : ℕ) (cs : List ℕ) → list_any (λ (letter : ℕ). eqb letter c) cs ≡ list_any (eqb c) cs
 has-flipped c [] = refl
 has-flipped c (x ∷ xs) = ap₂ (λ (a b : Bool). a || b) (swapped x c) (has-flipped c xs)
 
 -- what isn't found passes nowhere, and what is found passes
-none-passes : (p : ℕ → Bool) (cs : List ℕ) → find p cs ≡ None → (c : ℕ) → list_any (eqb c) cs ≡ true → p c ≡ false
+pub none-passes : (p : ℕ → Bool) (cs : List ℕ) → find p cs ≡ None → (c : ℕ) → list_any (eqb c) cs ≡ true → p c ≡ false
 none-passes p [] e c h = absurd (true≢false (sym h))
 none-passes p (x ∷ xs) e c h = by (p x) refl e (eqb c x) refl h (λ n a. none-passes p xs n c a)
   where
@@ -45,7 +45,7 @@ none-passes p (x ∷ xs) e c h = by (p x) refl e (eqb c x) refl h (λ n a. none-
     by false t n true s a others = ap p (eqb-true c x s) ∙ t
     by false t n false s a others = others n a
 
-found-passes : (p : ℕ → Bool) (cs : List ℕ) (c : ℕ) → find p cs ≡ Some c → p c ≡ true
+pub found-passes : (p : ℕ → Bool) (cs : List ℕ) (c : ℕ) → find p cs ≡ Some c → p c ≡ true
 found-passes p [] c e = absurd (true≢false (sym (ap is_some e)))
 found-passes p (x ∷ xs) c e = by (p x) refl e (found-passes p xs c)
   where
@@ -58,11 +58,11 @@ found-passes p (x ∷ xs) c e = by (p x) refl e (found-passes p xs c)
 each-differs : IsDistinct eqb alphabet
 each-differs = IsDistinct-from_count numbers alphabet refl
 
-and-true : (a b : Bool) → (a && b) ≡ false → a ≡ true → b ≡ false
+pub and-true : (a b : Bool) → (a && b) ≡ false → a ≡ true → b ≡ false
 and-true true b e h = e
 and-true false b e h = absurd (true≢false (sym h))
 
-not-false : (b : Bool) → not b ≡ false → b ≡ true
+pub not-false : (b : Bool) → not b ≡ false → b ≡ true
 not-false true e = refl
 not-false false e = absurd (true≢false e)
 
@@ -117,11 +117,11 @@ distinct-append c (x ∷ xs) d e = by (eqb x c) refl e (distinct-append c xs d.1
     by true s e others = absurd (true≢false e)
     by false s e others = (all-append x c xs d.0 s, others e)
 
-one-more : (xs : List ℕ) (c : ℕ) → length (xs ++ c ∷ []) ≡ length xs + 1
+pub one-more : (xs : List ℕ) (c : ℕ) → length (xs ++ c ∷ []) ≡ length xs + 1
 one-more xs c = length-append xs (c ∷ [])
 
 -- what a work could be called by, ahead of all letters
-abbrev best : List WorkContents → ℕ → List ℕ → List ℕ
+abbrev pub best : List WorkContents → ℕ → List ℕ → List ℕ
 best works w name = filter (is_spare works w) (name ++ alphabet)
 
 distinct-from : (works : List WorkContents) (given : List ℕ) (w : ℕ) (others : List WorkContents) → length given + length others ≤ 62 → IsDistinct eqb given → IsDistinct eqb (letters_from works given w others)

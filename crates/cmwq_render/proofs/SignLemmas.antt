@@ -12,7 +12,7 @@ use Rattle.cmwq_picture.specs.declared.cell.Sign.{Sign}
 use Rattle.cmwq_picture.specs.declared.cell.Sign.TheVariants as sign
 use Rattle.cmwq_render.specs.Laws.{NoneIsASign}
 use Rattle.cmwq_render.specs.Legend.{sign_mark}
-use Rattle.cmwq_render.specs.Letters.{alphabet, free_letter, is_free, is_letter, is_no_sign, is_spare, letter_of, letters_from}
+use Rattle.cmwq_render.specs.Letters.{alphabet, begins_another, free_letter, is_free, is_letter, is_no_sign, is_spare, letter_of, letters_from}
 use Rattle.cmwq_render.proofs.LetterLemmas.{and-true, best, found-passes, has-flipped, none-passes, not-false, numbers, one-more}
 
 -- all letters but the last, which is a sign
@@ -38,30 +38,33 @@ right-of false b e = absurd (true≢false (sym e))
 -- what is found among those that all pass another test passes it
 found-among : (p q : ℕ → Bool) (cs : List ℕ) (c : ℕ) → list_all q cs ≡ true → find p cs ≡ Some c → q c ≡ true
 found-among p q [] c all e = absurd (true≢false (sym (ap is_some e)))
-found-among p q (x ∷ xs) c all e = by (p x) refl e
+found-among p q (x ∷ xs) c all e = by (p x) e (found-among p q xs c (right-of (q x) (list_all q xs) all))
   where
-    by : (b : Bool) → p x ≡ b → cond b (Some x) (find p xs) ≡ Some c → q c ≡ true
-    by true t e = ap q (sym (ap (λ (o : Option ℕ). unwrap_or o c) e)) ∙ left-of (q x) (list_all q xs) all
-    by false t e = found-among p q xs c (right-of (q x) (list_all q xs) all) e
+    by : (b : Bool) → cond b (Some x) (find p xs) ≡ Some c → (find p xs ≡ Some c → q c ≡ true) → q c ≡ true
+    by true e others = ap q (sym (ap (λ (o : Option ℕ). unwrap_or o c) e)) ∙ left-of (q x) (list_all q xs) all
+    by false e others = others e
 
 spare-is-no-sign : (works : List WorkContents) (w : ℕ) (cs : List ℕ) → list_all is_no_sign (filter (is_spare works w) cs) ≡ true
 spare-is-no-sign works w [] = refl
-spare-is-no-sign works w (c ∷ cs) = by (is_spare works w c) refl
+spare-is-no-sign works w (c ∷ cs) = by (is_spare works w c) refl (spare-is-no-sign works w cs)
   where
-    by : (b : Bool) → is_spare works w c ≡ b → list_all is_no_sign (cond b (c ∷ filter (is_spare works w) cs) (filter (is_spare works w) cs)) ≡ true
-    by true e = both (is_no_sign c) _ (left-of (is_no_sign c) _ e) (spare-is-no-sign works w cs)
-    by false e = spare-is-no-sign works w cs
+    spare : List ℕ
+    spare = filter (is_spare works w) cs
+
+    by : (b : Bool) → is_spare works w c ≡ b → list_all is_no_sign spare ≡ true → list_all is_no_sign (cond b (c ∷ spare) spare) ≡ true
+    by true e others = both (is_no_sign c) (list_all is_no_sign spare) (left-of (is_no_sign c) (not (begins_another w c 0 works)) e) others
+    by false e others = others
 
 plain-differs : IsDistinct eqb plain
 plain-differs = IsDistinct-from_count numbers plain refl
 
 any-front : (p : ℕ → Bool) (xs ys : List ℕ) → list_any p xs ≡ true → list_any p (xs ++ ys) ≡ true
 any-front p [] ys e = absurd (true≢false (sym e))
-any-front p (x ∷ xs) ys e = by (p x) e
+any-front p (x ∷ xs) ys e = by (p x) e (any-front p xs ys)
   where
-    by : (b : Bool) → (b || list_any p xs) ≡ true → (b || list_any p (xs ++ ys)) ≡ true
-    by true e = refl
-    by false e = any-front p xs ys e
+    by : (b : Bool) → (b || list_any p xs) ≡ true → (list_any p xs ≡ true → list_any p (xs ++ ys) ≡ true) → (b || list_any p (xs ++ ys)) ≡ true
+    by true e others = refl
+    by false e others = others e
 
 given-has-plain : (given : List ℕ) → find (is_free given) plain ≡ None → (c : ℕ) → is_member eqb plain c ≡ true → is_member eqb given c ≡ true
 given-has-plain given e c h =
@@ -118,12 +121,15 @@ plain-from works given w (work ∷ others) h all =
     shorter e = omega arith
 
 none-among : (q : ℕ → Bool) (m : ℕ) (cs : List ℕ) → q m ≡ false → list_all q cs ≡ true → list_any (λ (letter : ℕ). eqb letter m) cs ≡ false
-none-among q m [] no all = refl
-none-among q m (x ∷ xs) no all = by (eqb x m) refl
+none-among q m [] fails all = refl
+none-among q m (x ∷ xs) fails all = by (eqb x m) refl (none-among q m xs fails (right-of (q x) (list_all q xs) all))
   where
-    by : (b : Bool) → eqb x m ≡ b → (b || list_any (λ (letter : ℕ). eqb letter m) xs) ≡ false
-    by true e = absurd (true≢false (sym (left-of (q x) (list_all q xs) all) ∙ ap q (eqb-true x m e) ∙ no))
-    by false e = none-among q m xs no (right-of (q x) (list_all q xs) all)
+    rest : Bool
+    rest = list_any (λ (letter : ℕ). eqb letter m) xs
+
+    by : (b : Bool) → eqb x m ≡ b → rest ≡ false → (b || rest) ≡ false
+    by true e others = absurd (true≢false (sym (left-of (q x) (list_all q xs) all) ∙ ap q (eqb-true x m e) ∙ fails))
+    by false e others = others
 
 no-plain : (s : Sign) → is_plain (sign_mark s) ≡ false
 no-plain sign.Burns = refl
@@ -138,6 +144,9 @@ pub none_is_sign : NoneIsASign
 unfolding NoneIsASign
 none_is_sign S s h = by (leb (length S.works) 62) refl
   where
+    none-yet : length S.works ≤ 61 → 0 + length S.works ≤ 61
+    none-yet few = omega (arith, few)
+
     by : (b : Bool) → leb (length S.works) 62 ≡ b → list_any (λ (letter : ℕ). eqb letter (sign_mark s)) (cond b (letters_from S.works [] 0 S.works) []) ≡ false
-    by true e = none-among is_plain (sign_mark s) (letters_from S.works [] 0 S.works) (no-plain s) (plain-from S.works [] 0 S.works h refl)
+    by true e = none-among is_plain (sign_mark s) (letters_from S.works [] 0 S.works) (no-plain s) (plain-from S.works [] 0 S.works (none-yet h) refl)
     by false e = refl

@@ -15,8 +15,8 @@ loop-step-init g c =
       none = subst (λ (n : ℕ). lowest (is_event start.scenario start.instrs start.position) n ≡ None) (sym at) (no-event-yet start.scenario start.instrs start.position);
     }
 
-pub returns-then : goal.returns-then
-returns-then g c =
+pub returns-then-not-is_silent : goal.returns-then-not-is_silent
+returns-then-not-is_silent g c =
     let start = c.args.self.now in
     let k = c.loop-step._step in
     let so_far = c.loop-step.invariant in
