@@ -6,7 +6,7 @@ mod meter;
 use crate::meter::Meter;
 use cmwq_advice::take_explain;
 use cmwq_command::{Disk, Manner, ProgramSetting, advise, carry_out, reads_input, remark};
-use cmwq_outcome::{GOOD, Look, fault, tell};
+use cmwq_outcome::{Look, fault, tell};
 use cmwq_play::{Marked, PlayError, read_whole};
 use cmwq_request::request;
 use cmwq_request::request::STANDARD_INPUT;
@@ -71,8 +71,7 @@ fn do_all<R: AllocGlobal + Threads + Wait + Clock + Sync>(
         // Where this can't be told there is nobody left to tell that.
         let _ = match outcome {
             Err(fault) => advise(rt.alloc(), disk, look, words, fault, &mut errors),
-            Ok(GOOD) => remark(rt.alloc(), disk, words, &mut errors),
-            Ok(_) => Ok(()),
+            Ok(_) => remark(rt.alloc(), disk, words, &mut errors),
         };
     }
     code
