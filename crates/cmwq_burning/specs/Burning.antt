@@ -1,5 +1,5 @@
 -- What an instance of a work burns, from the reply that tells that it starts to the one that tells that it finishes.
-use Rattle.std.specs.Prelude.{◌≡◌, ℕ, ◌+◌, Bool, true, false, ◌&&◌, List, [], ◌∷◌, Some, if◌then◌else◌, nat_lt, ◌==◌, take}
+use Rattle.std.specs.Prelude.{◌≡◌, ℕ, ◌+◌, Bool, true, false, ◌&&◌, List, [], ◌∷◌, Some, if◌then◌else◌, nat_lt, take}
 use Rattle.std.specs.List.{list_any, sum_by}
 use Rattle.cmwq_types.specs.Contents.{ScenarioContents}
 use Rattle.cmwq_types.specs.Scenario.{work_at}
