@@ -1,7 +1,10 @@
 //! What is told of a strict run.
-ghost use Rattle.cmwq_outcome.specs.Refused.{IsLineOf, IsRefusedLine, refused_line};
+ghost use Rattle.cmwq_outcome.specs.Refused.{IsLineOf, IsRefusedLine, line_on, refused_line};
+ghost use Rattle.cmwq_remarks.specs.Examples.{refused_twice};
 ghost use Rattle.cmwq_types.specs.Faults.{IsValid};
-ghost use Rattle.std.specs.Prelude.{◌≡◌, IfOk, option_map};
+ghost use Rattle.cmwq_types.specs.declared.reply.Refusal.TheVariants as refusal;
+ghost use Rattle.cmwq_types.specs.declared.reply.Reply.TheVariants as reply;
+ghost use Rattle.std.specs.Prelude.{◌≡◌, ◌∷◌, [], IfOk, None, Some, codes, option_map};
 
 use cmwq_asm::{AsmError, assemble};
 use cmwq_core::Core;
@@ -24,6 +27,13 @@ pub fn refused_line(alloc: Global, text: &[u8]) -> Result<Option<Vec<u8>>, NoMem
         Err(AsmError::NoMemory) => Err(NoMemory),
     }
 }
+
+/// Gives worked examples: refusals are counted, and the position is the number of instructions before the first of them.
+pub fn refusals_are_told_by_position()
+    ensures two { line_on refused_twice ≡ Some (codes "refused 2 instructions, first at position 1\n") }
+    ensures one { line_on (reply.Refused refusal.Spent ∷ reply.Yes ∷ []) ≡ Some (codes "refused 1 instruction, at position 0\n") }
+    ensures none { line_on (reply.Done ∷ reply.Already ∷ []) ≡ None }
+{}
 
 /// Returns the same line on the run of this scenario.
 fn line_of_run<M: Machine>(alloc: Global, scenario: Scenario) -> Result<Option<Vec<u8>>, NoMemory>
