@@ -12,9 +12,19 @@ _cmwq_file() {
     done
 }
 
-# Prints the names that the file's lines of this word declare: works, actors or queues.
+# Prints the names that the file's lines of this word declare: works, actors or queues. A line that declares a queue has `max` after the name;
+# `queue WORK CPU` is an instruction.
 _cmwq_names() {
-    sed -n "s/^[[:blank:]]*$1[[:blank:]]\{1,\}\([a-z][a-z0-9_]*\).*/\1/p" -- "$2" 2> /dev/null
+    local end=
+    [[ $1 == queue ]] && end='[[:blank:]]\{1,\}max[[:blank:]]'
+    sed -n "s/^[[:blank:]]*$1[[:blank:]]\{1,\}\([a-z][a-z0-9_]*\)$end.*/\1/p" -- "$2" 2> /dev/null
+}
+
+# Offers the file's works for the last name of a list with commas.
+_cmwq_work_list() {
+    local before=
+    [[ $1 == *,* ]] && before=${1%,*},
+    mapfile -t COMPREPLY < <(compgen -P "$before" -W "$(_cmwq_names work "$2")" -- "${1##*,}")
 }
 
 # Prints what may stand here behind an option of `explore`, whose FILE this is: a work or an actor, or one more option.
@@ -47,7 +57,7 @@ _cmwq() {
     elif [[ $word == -* ]]; then
         local options='--explain --help'
         case $command in
-            run) options='--settle --tell --explain --help' ;;
+            run) options='--settle --tell --strict --explain --help' ;;
             draw) options='--settle --svg --from --to --fold --works --scale --id --explain --help' ;;
             why) options='--flush --at --every --time --settle --explain --help' ;;
             explore) options='--after --never --stuck --before --limit --explain --help' ;;
@@ -57,7 +67,9 @@ _cmwq() {
             play) options='--capacity --explain --help' ;;
         esac
         mapfile -t COMPREPLY < <(compgen -W "$options" -- "$word")
-    elif [[ ${COMP_WORDS[COMP_CWORD - 1]} == @(--capacity|--from|--to|--flush|--at|--time|--works|--scale|--id|--limit) ]]; then
+    elif [[ ${COMP_WORDS[COMP_CWORD - 1]} == --works ]]; then
+        file=$(_cmwq_file) && _cmwq_work_list "$word" "$file"
+    elif [[ ${COMP_WORDS[COMP_CWORD - 1]} == @(--capacity|--from|--to|--flush|--at|--time|--scale|--id|--limit) ]]; then
         return
     elif [[ $command == why ]] && file=$(_cmwq_file) && [[ -n $file ]]; then
         mapfile -t COMPREPLY < <(compgen -W "$(_cmwq_names work "$file")" -- "$word")
@@ -70,7 +82,7 @@ _cmwq() {
     elif [[ ${COMP_WORDS[COMP_CWORD - 1]} == --dat || $command == @(show|new) || ($command == asm && -n $(_cmwq_file)) ]]; then
         compopt -o filenames 2> /dev/null
         mapfile -t COMPREPLY < <(compgen -f -- "$word")
-    else
+    elif [[ $command == check || -z $(_cmwq_file) ]]; then
         _cmwq_scenarios "$word"
     fi
 }

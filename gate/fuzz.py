@@ -110,7 +110,7 @@ def told_fault(bench, verdict, content):
 def try_faulty(bench, rng, verdict, content):
     """Each command tells the fault that `check` tells."""
     wanted = Ended(1, b"", told_fault(bench, verdict, content))
-    lines = ["run", "run --settle", "run --tell", "settle", "list", "draw", "why a", "why --flush 0", "debug", "play --capacity 9", "asm"]
+    lines = ["run", "run --settle", "run --tell", "run --strict --settle", "settle", "list", "draw", "why a", "why --flush 0", "debug", "play --capacity 9", "asm"]
     lines += ["explore --stuck", "explore --never a --limit 9"]
     for line in ["list", *rng.sample(lines, 2)]:
         command, *rest = line.split()

@@ -143,6 +143,12 @@ new fresh.cmwq
 new there
 run every.cmwq
 run --tell every.cmwq
+run --strict every.cmwq
+run --strict asked.cmwq
+run --strict --settle --tell asked.cmwq
+run --strict faulty.cmwq
+run --strict nothing.cmwq
+run --explain --strict asked.cmwq
 run --settle every.cmwq
 run --settle restless.cmwq
 run --settle --tell every.cmwq
@@ -288,7 +294,7 @@ USES += [("debug every.cmwq", commands) for commands in (
 )]
 USES += [("debug --settle every.cmwq", "run"), ("debug --settle restless.cmwq", "run")]
 # Standard input as a file.
-USES += [(line, text) for line in ("run -", "run --explain -", "check - faulty.cmwq", "asm - out.image", "draw -", "why - b", "show -") for text in (EVERY, FILES["faulty.cmwq"])]
+USES += [(line, text) for line in ("run -", "run --strict -", "run --explain -", "check - faulty.cmwq", "asm - out.image", "draw -", "why - b", "show -") for text in (EVERY, FILES["faulty.cmwq"])]
 USES += [(line, text) for line in ("times -", "trace - --json", "trace - --lines") for text in (EVERY, FILES["faulty.cmwq"])]
 USES += [("explore - --never a", text) for text in (ORDERS, FILES["faulty.cmwq"])]
 # On a way with checkpoints.
@@ -461,7 +467,7 @@ class Documented:
         for front, names in {"line N: ": self.reasons, "image: ": self.image_reasons}.items():
             if line == f"{front}REASON":
                 return f"{front}({'|'.join(sorted(names))})".replace(" N", " [0-9]+")
-        return re.sub(r"\bN\b", "[0-9]+", re.escape(line))
+        return re.sub(r"\b[NK]\b", "[0-9]+", re.escape(line))
 
     def is_verdict(self, line):
         """Whether `check` says such a line on standard error, for no terminal."""

@@ -50,10 +50,8 @@ BEHIND_QUIT = ("step\nquit\n", "step\nquit\nstep\n", "step\nquit\nst")
 IN_BLOCKS = {"run refused.cmwq": 8192, "why deepest.cmwq a": 8192, "why deepest.cmwq a --every": 8192}
 # What is known to be otherwise, and isn't mended: of these situations these faults.
 KNOWN = {
-    # FILE is opened as descriptor 0, so its end is the end of the commands.
-    ("closed input", "ends with status 0 and says b''"),
-    ("all closed", "ends with status 0 and says b''"),
-    # The signal of a file that has grown too large isn't ignored, as that of a pipe without reader is.
+    # Whoever writes more than a file may have is ended by a signal, SIGXFSZ, unless it is ignored. The kit's runtime leaves it as it is, and has no
+    # call by which a program ignores a signal.
     ("small files", "ends by signal 25 and says b''"),
 }
 

@@ -128,6 +128,7 @@ ROWS = [
     ("new nowhere/first.cmwq", 3, "write", "  nowhere/first.cmwq: no such folder"),
     ("new folder", 3, "write", "  folder is there already; new doesn't overwrite"),
     ("asm good.cmwq good.cmwq", 3, "write", "  good.cmwq is the scenario's own text; asm doesn't overwrite it"),
+    ("trace good.cmwq --dat good.cmwq", 3, "write", "  good.cmwq is the scenario's own text; trace doesn't overwrite it"),
     ("asm good.cmwq folder", 3, "write", "  folder is a folder"),
     ("asm good.cmwq nowhere/good.image", 3, "write", "  nowhere/good.image: no such folder"),
     ("asm nosuch.cmwq made.image", 3, "read", "  nosuch.cmwq: no such file"),

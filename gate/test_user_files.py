@@ -139,20 +139,37 @@ def fish_completes(*words):
     return [line.split("\t")[0] for line in out.splitlines()]
 
 
+def unchanged(shell, words):
+    """What a shell shows where it completes nothing: zsh the word as it was typed."""
+    return [*words[-1:]] if shell == "zsh" else []
+
+
+def fish_describes(*words):
+    """What fish offers for the last of the words, each with what it says of it."""
+    out = said("fish", "--no-config", "-c", 'source completions/cmwq.fish; complete -C "$argv"', "cmwq", *words)
+    return dict(line.partition("\t")[::2] for line in out.splitlines())
+
+
 def completion_faults(commands):
     shells = {"bash": bash_completes, "zsh": zsh_completes, "fish": fish_completes}
     shells = {shell: completes for shell, completes in shells.items() if shutil.which(shell)}
     rows = [(("ru",), ["run"]), (("run", "docs/FORM"), ["docs/FORMATS.md"]), (("play", "--c"), ["--capacity"]), (("why", "--fl"), ["--flush"]), (("help", "de"), ["debug"])]
-    rows += [(("--v",), ["--version"]), (("run", "--ex"), ["--explain"]), (("run", "scenarios/rac"), ["scenarios/race.cmwq"])]
+    rows += [(("--v",), ["--version"]), (("run", "--ex"), ["--explain"]), (("run", "scenarios/race.c"), ["scenarios/race.cmwq"])]
     with tempfile.NamedTemporaryFile("w", suffix=".cmwq") as file:
-        file.write("work handler q # and one that is no scenario's: work hat\n  work other q\nactor probe\n actor remove\n")
+        file.write("queue main max 2\nwork handler main # and one that is no scenario's: work hat\n  work other main\n")
+        file.write("body handler\nqueue other 0\nfinish\nactor probe\nqueue handler 0\n actor remove\n")
         file.flush()
+        # An instruction that queues a work declares no queue; a list of works is completed behind its last comma; and behind FILE no file is offered.
+        rows += [(("times", file.name, "--sweep", ""), ["main"]), (("draw", file.name, "--works", "ha"), ["handler"]), (("draw", file.name, "--works", "other,ha"), ["other,handler"])]
+        rows += [(("why", file.name, "READ"), []), (("run", file.name, "READ"), [])]
         rows += [(("why", file.name, "ha"), ["handler"]), (("why", "--at", "3", file.name, "oth"), ["other"]), (("explore", "--be"), ["--before"])]
         rows += [(("explore", file.name, *words), want) for words, want in [(("--never", "ha"), ["handler"]), (("--after", "re"), ["remove"]), (("--before", "pr"), ["probe"])]]
-        faults = [f"{shell} completes {words} as {found}" for words, want in rows for shell, completes in shells.items() if (found := completes(*words))[:1] != want]
+        faults = [f"{shell} completes {words} as {found}" for words, want in rows for shell, completes in shells.items() if (found := completes(*words)) != (want or unchanged(shell, words))]
     faults += [f"{COMPLETIONS[shell]}: {shell} says {out}" for shell in shells if (out := said(shell, "-n", COMPLETIONS[shell]))]
     if not commands <= set(bash_completes("")):
         faults.append("bash doesn't offer each command")
+    if "fish" in shells and (bare := [name for name in sorted({*commands, "scenario"}) if not fish_describes("help", "").get(name)]):
+        faults.append(f"fish says nothing of {bare} behind help")
     return faults
 
 

@@ -310,14 +310,43 @@ What else is said of a usage fault.
   $ cmwq why a
   2|error: why takes either a WORK or --flush
   2|
-  2|Usage: cmwq <COMMAND>
+  2|Usage: cmwq why [OPTIONS] <FILE> [WORK]
   2|
   2|For more information, try '--help'.
   [2]
   $ cmwq explore a --stuck --before x b --before b c --before c b
   2|error: --before goes in a ring: b, c, b
   2|
-  2|Usage: cmwq <COMMAND>
+  2|Usage: cmwq explore [OPTIONS] <FILE>
+  2|
+  2|For more information, try '--help'.
+  [2]
+
+The usage that is told is that of the command.
+  $ usage() {
+  >   cmwq "$@" | sed -n 's/^2|Usage: //p'
+  > }
+  $ usage debug -
+  cmwq debug [OPTIONS] <FILE>
+  $ usage play a --capacity 0
+  cmwq play --capacity <N> <FILE>
+  $ usage draw a --from 2 --to 1
+  cmwq draw [OPTIONS] <FILE>
+  $ usage times a --sweep q 0..1
+  cmwq times [OPTIONS] <FILE>
+  $ usage trace a
+  cmwq trace [OPTIONS] <FILE>
+
+Bytes of words that aren't printable are shown as `?`, a byte each.
+  $ first $'walk\e[31m\ta\x7f\xc3\xa9'
+  2|error: unrecognized subcommand 'walk?[31m?a???'
+  [2]
+  $ cmwq run $'--\e]0;a\a' b
+  2|error: unexpected argument '--?]0;a?' found
+  2|
+  2|  tip: to pass '--?]0;a?' as a value, use '-- --?]0;a?'
+  2|
+  2|Usage: cmwq run [OPTIONS] <FILE>
   2|
   2|For more information, try '--help'.
   [2]

@@ -317,6 +317,25 @@ At a terminal each fault's line is shown, with a caret, and the reason is red. S
   $ cat faulty.cmwq
   cpus 17
 
+So is it where standard input is read from OUT, by another path too.
+  $ cmwq asm - faulty.cmwq < faulty.cmwq
+  2|write
+  [3]
+  $ cmwq trace --dat ./faulty.cmwq - < faulty.cmwq
+  2|write
+  [3]
+  $ ln faulty.cmwq other.cmwq
+  $ cmwq trace - --dat other.cmwq --explain < faulty.cmwq
+  2|write
+  2|  other.cmwq is the scenario's own text; trace doesn't overwrite it
+  [3]
+  $ cat faulty.cmwq
+  cpus 17
+  $ cmwq asm - other.image < faulty.cmwq
+  2|line 1: Range
+  [1]
+  $ rm other.cmwq other.image
+
 A file that can't be opened is a failed read, and one that can't be made a failed write.
   $ cmwq run no_folder/a.cmwq
   2|read

@@ -107,3 +107,45 @@ A picture has 500 columns and no more: of freezes and thaws, with a tick behind 
   $ long 0 'next * 501\n' >text
   $ cmwq draw --settle text >picture
   $ [ -s picture ]
+
+`run --strict` prints what `run` prints. Then it says how many instructions were refused, and how many were issued before the first of them.
+  $ strictly() { cmwq run --strict "$@" >printed 2>errors; echo "status $?"; cat errors; }
+  $ printf '%s\n' 'cpus 1' 'workers 1' 'steps 8' 'flushes 0' 'queue q max 1' 'work a q' 'body a' 'burn 2' finish 'actor t' 'queue a 0' 'thaw * 2' 'next' >twice
+  $ strictly twice
+  status 1
+  refused 2 instructions, first at position 1
+  $ cat printed
+  0 refused NotFrozen
+  0 refused NotFrozen
+  0 a starts
+  $ strictly --settle --tell - <twice
+  status 1
+  refused 2 instructions, first at position 1
+  $ cmwq run --settle --tell twice | cmp - printed
+  $ strictly <(cat twice)
+  status 1
+  refused 2 instructions, first at position 1
+  $ sed 's/thaw \* 2/thaw/' twice >once
+  $ strictly once
+  status 1
+  refused 1 instruction, at position 1
+  $ grep -v thaw twice >none
+  $ strictly none
+  status 0
+  $ cmwq run none | cmp - printed
+
+Behind the line a remark tells the line of the text. Spent steps refuse whatever needs one; no `next` that `--settle` adds is refused. A fault is told alone.
+  $ strictly --explain --settle twice
+  status 1
+  refused 2 instructions, first at position 1
+  2 instructions were refused, the first in line 12
+  $ sed 's/steps 8/steps 1/' twice >spent
+  $ strictly spent
+  status 1
+  refused 3 instructions, first at position 1
+  $ strictly --settle spent
+  status 1
+  never quiet
+  $ strictly nowhere
+  status 3
+  read

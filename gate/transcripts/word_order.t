@@ -19,6 +19,9 @@ something else than a third command line, in which an option is missing or anoth
 Runs, pictures, times and traces.
   $ same "run --settle one.cmwq" "run one.cmwq --settle" "run one.cmwq"
   $ same "run --tell one.cmwq" "run one.cmwq --tell" "run one.cmwq"
+  $ printf '%s\n' 'cpus 1' 'workers 4' 'steps 1000' 'flushes 0' 'actor t' 'thaw' > refused.cmwq
+  $ same "run --strict refused.cmwq" "run refused.cmwq --strict" "run refused.cmwq"
+  $ same "run --strict --settle - --tell < refused.cmwq" "run refused.cmwq --settle --tell --strict" "run refused.cmwq --settle --strict"
   $ same "run --tell - --settle < one.cmwq" "run one.cmwq --settle --tell" "run one.cmwq --tell"
   $ same "draw --settle one.cmwq" "draw one.cmwq --settle" "draw one.cmwq"
   $ same "draw --settle --svg --from 1 --to 18446744073709551615 one.cmwq" "draw one.cmwq --settle --from 1 --to 18446744073709551615 --svg" "draw one.cmwq --settle --svg"

@@ -74,7 +74,15 @@ fn do_all<R: AllocGlobal + Threads + Wait + Clock + Sync>(
         let _ = match outcome {
             Err(fault) => advise(rt.alloc(), disk, look, words, fault, &mut errors),
             Ok(GOOD) => remark(rt.alloc(), disk, words, &mut errors),
-            Ok(UNDONE) => advise_undone(rt.alloc(), disk, words, &mut errors),
+            Ok(UNDONE) => {
+                // It is a strict run, of which there are remarks, or an exploration, of which there is advice.
+                let remarked = remark(rt.alloc(), disk, words, &mut errors);
+                if errors.failed {
+                    remarked
+                } else {
+                    advise_undone(rt.alloc(), disk, words, &mut errors)
+                }
+            }
             Ok(_) => Ok(()),
         };
     }

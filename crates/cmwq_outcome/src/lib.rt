@@ -11,7 +11,7 @@ mod telling;
 
 pub use cmwq_verdict::Look;
 pub use file_verdict::{Judged, check_text, tell_unread};
-pub use refused::refused_line;
+pub use refused::{refusals_are_told_by_position, refused_line};
 pub use starter::{first_scenario_prints, first_text};
 pub use starting::{write_first, write_version};
 pub use telling::{GOOD, USAGE, tell};
