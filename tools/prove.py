@@ -20,7 +20,7 @@ import kit
 NAME = "cmwq"
 OUT = f"{kit.TOP}/crates/{NAME}/out"
 LOG = f"{OUT}/build.log"
-DONE = re.compile(r"rt: (\w+) (?:proved$|is kept: )")
+DONE = re.compile(r"rt: (\w+) (proved$|is kept: )")
 FAILED = re.compile(r"rt: (\w+) NOT PROVED")
 WAITS = "another run on this machine is proving the same"
 # Where `rt ci` keeps what it proved, and how many bytes it leaves free there.
@@ -63,7 +63,7 @@ class Progress:
     """Says how many crates are proved, and which are being proved, by what `rt ci` prints: on a terminal in one line that changes."""
 
     def __init__(self, names, screen):
-        self.names, self.screen, self.done, self.last, self.lock = names, screen, set(), "", threading.Lock()
+        self.names, self.screen, self.done, self.running, self.last, self.lock = names, screen, set(), set(), "", threading.RLock()
 
     def say(self, text, end=""):
         """Says it; with an end, in a line that stays."""
@@ -74,19 +74,25 @@ class Progress:
     def read(self, line):
         """Takes a line of `rt ci`. Returns whether it says that a crate isn't proved."""
         if done := DONE.match(line):
-            self.done.add(done[1])
+            with self.lock:
+                self.done.add(done[1])
+                # (what was kept comes quickly, and is told each second)
+                if done[2] == "proved":
+                    self.tell(self.running)
         if WAITS in line:
             self.say(f"cmwq: {line.removeprefix('rt: ').rstrip()}", "\n")
         return bool(FAILED.match(line))
 
     def tell(self, running):
         """Says how far it is, while these crates are being proved, if that is news."""
-        of = [name for name in self.names if name in running and name not in self.done]
-        text = f"{len(self.done)} of {len(self.names)} crates are proved"
-        # (with no crate, one was proved just now, or the next begins)
-        if (of or not self.last.startswith(text)) and f"{text}; {', '.join(of)}" != self.last:
-            self.last = f"{text}; {', '.join(of)}"
-            self.say(self.last if of else text)
+        with self.lock:
+            self.running = running
+            of = [name for name in self.names if name in running and name not in self.done]
+            text = f"{len(self.done)} of {len(self.names)} crates are proved"
+            # (with no crate, one was proved just now, or the next begins)
+            if (of or not self.last.startswith(text)) and f"{text}; {', '.join(of)}" != self.last:
+                self.last = f"{text}; {', '.join(of)}"
+                self.say(self.last if of else text)
 
     def watch(self, parent, is_over):
         """Says each second how far it is, until it is over."""
