@@ -1,5 +1,5 @@
 -- What is told of a text's run, or of its settled run, and the one reason why nothing is.
-use Rattle.std.proofs.Common.{◌≡◌, ◌≢◌, ◌≤◌, ◌⊎◌, inl, inr, ℕ, List, length, Bool, Option, None, IfSome, Result, Ok, Err, IfErr, ap, ◌∙◌, sym, subst}
+use Rattle.std.proofs.Common.{◌≡◌, ◌≢◌, ◌≤◌, ◌⊎◌, inl, inr, ℕ, List, length, Bool, Option, None, IfSome, Result, Ok, Err, IfErr, ◌∙◌, sym, subst}
 use Rattle.cmwq_types.specs.Contents.{ActorContents, ScenarioContents}
 use Rattle.cmwq_types.specs.Scenario.{expand}
 use Rattle.cmwq_types.specs.declared.instr.Instr.{Instr}

@@ -1,12 +1,11 @@
 -- What has come changes nothing, and is told by its line alone; and parts are joined only where both have come.
-use Rattle.std.proofs.Common.{◌≡◌, ◌&&◌, ℕ, Bool, true, false, List, [], ◌++◌, Option, Some, None, append-nil, refl, ap, ◌∙◌}
+use Rattle.std.proofs.Common.{◌≡◌, ◌&&◌, true, List, [], ◌++◌, Option, Some, None, append-nil, refl, ap, ◌∙◌}
 use Rattle.std.proofs.lemmas.Bool.{and_parts}
 use Rattle.std.specs.Prelude.{is_none}
 use Rattle.cmwq_types.specs.Contents.{ScenarioContents}
 use Rattle.cmwq_types.specs.contracts.instr.InstrPartialEq.TheImpl as instr_eq
 use Rattle.cmwq_types.specs.declared.instr.Instr.{Instr}
 use Rattle.cmwq_types.specs.declared.reply.Refusal.{Refusal}
-use Rattle.cmwq_types.specs.declared.reply.Reply.{Reply}
 use Rattle.cmwq_types.specs.declared.reply.Reply.TheVariants as reply
 use Rattle.cmwq_table.proofs.GoingLemmas.{table-met}
 use Rattle.cmwq_table.specs.Events.{reply_line}
@@ -14,7 +13,6 @@ use Rattle.cmwq_table.specs.Laws.{AtEveryInstruction}
 use Rattle.cmwq_table.specs.State.{State}
 use Rattle.cmwq_table.specs.Table.{is_met, operands, run, table}
 use Rattle.cmwq_tell.specs.declared.change.Change.{Change}
-use Rattle.cmwq_tell.specs.Hidden.{hidden}
 use Rattle.cmwq_tell.specs.Laws.{HasItsLineAlone}
 use Rattle.cmwq_tell.specs.RunTold.{Part, change_lines, has_come, instr_line, joins, told_wholly}
 use Rattle.cmwq_tell.proofs.BelowLemmas.{nothing-hidden, run-below}
