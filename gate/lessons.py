@@ -5,12 +5,13 @@ scenario with several actors leaves is one of NAME.play1, NAME.play2 .., and run
 waits is NAME.why_W, and what flush F waits for NAME.flush_F, where there are such; with _every behind it, the same at every position.
 scenarios/README.md asks of each lesson why something waits: a line **QUESTION?**, a line `./cmwq why ..`, and behind it, folded away, what that
 prints. What is asked of all orders of several actors, `./cmwq explore ..`, has its answer in NAME.explore_.., and folded away that name, the status and the
-answer from its first comment on; an order that was found has the steps and the lines of its run in its comments. The
-commands of both pages stand behind `$`, each with what it prints, and README.md's picture is docs/max_active_3.svg. The program's
+answer from its first comment on; an order that was found has the steps and the lines of its run in its comments. In README.md, scenarios/README.md and
+the chapters of docs/tutorial/ each command follows a `$`, and what it prints follows the command; README.md's picture is docs/max_active_3.svg. The program's
 own stored run is one of these. Then faulty input: the status, and what each stream is given. And each scenario of one actor through an engine, by the program CALLS, where it is named: it
 prints the history, of which each entry is compared.
 
-    python3 gate/lessons.py PROGRAM [CALLS]"""
+    python3 gate/lessons.py PROGRAM [CALLS]
+    python3 gate/lessons.py --pages PROGRAM      the commands of README.md and the tutorial alone"""
 import glob
 import itertools
 import os
@@ -173,7 +174,7 @@ def first_page_faults(program, room):
     """What is wrong with the commands that README.md shows, and with its picture."""
     faults = command_faults(program, room, "README.md")
     shown = {word for command in re.findall(r"^\$ (.*)", bytes_of(f"{TOP}/README.md").decode(), re.M) for word in re.findall(r"\./cmwq (\w+)", command)}
-    faults += [f"README.md: no `{word}` is shown" for word in sorted({"new", "run", "draw", "why", "debug"} - shown)]
+    faults += [f"README.md: no `{word}` is shown" for word in sorted({"new", "run", "why", "explore", "times", "draw", "trace"} - shown)]
     if said(program, "draw", "--svg", f"{TOP}/scenarios/max_active_3.cmwq") != bytes_of(f"{TOP}/docs/max_active_3.svg"):
         faults.append("docs/max_active_3.svg: it isn't the lesson's picture")
     return faults
@@ -256,6 +257,20 @@ def quiet_faults(program, room):
     return faults + ([] if failed(program, "run", "--settle", text) == spent else ["run --settle: not the lines up to the steps' end"])
 
 
+def chapters():
+    """The pages of the tutorial."""
+    return sorted(os.path.relpath(it, TOP) for it in glob.glob(f"{TOP}/docs/tutorial/*.md"))
+
+
+def page_faults(program):
+    """What is wrong with the commands of README.md and of the tutorial."""
+    with tempfile.TemporaryDirectory(prefix="lessons-") as room:
+        faults = first_page_faults(os.path.abspath(program), room)
+        for page in chapters():
+            faults += command_faults(os.path.abspath(program), room, page)
+    return faults + ([] if chapters() else ["docs/tutorial/: there is no chapter to compare"])
+
+
 def main(program, calls=None):
     plays = sorted({re.sub(r"\.play\d+$", ".cmwq", it) for it in glob.glob(f"{TOP}/scenarios/*.play*")})
     orders = sorted(glob.glob(f"{TOP}/scenarios/*.explore_*"))
@@ -272,7 +287,7 @@ def main(program, calls=None):
         faults += [fault for commands in sorted(glob.glob(f"{TOP}/scenarios/*.debug")) for fault in session_faults(program, commands)]
         faults += [fault for text in plays for fault in play_faults(program, text, room)]
         faults += shown_faults(program, texts) + quiet_faults(program, room) + question_faults(program, texts + plays)
-        faults += first_page_faults(os.path.abspath(program), room) + command_faults(os.path.abspath(program), room, "scenarios/README.md")
+        faults += page_faults(program) + command_faults(os.path.abspath(program), room, "scenarios/README.md")
         faults += order_faults(program, orders)
         faults += [fault for stored in answers for fault in answer_faults(program, stored)]
         faults += [fault for drawing in drawings for fault in drawing_faults(program, drawing)]
@@ -297,5 +312,12 @@ def main(program, calls=None):
     return 1 if faults else 0
 
 
+def main_of_pages(program):
+    faults = page_faults(program)
+    print("".join(f"lessons: {fault}\n" for fault in faults), end="")
+    print(f"lessons: README.md and {len(chapters())} pages of the tutorial compared, {len(faults)} faults")
+    return 1 if faults else 0
+
+
 if __name__ == "__main__":
-    sys.exit(main(*sys.argv[1:]))
+    sys.exit(main_of_pages(*sys.argv[2:]) if sys.argv[1:2] == ["--pages"] else main(*sys.argv[1:]))
