@@ -22,6 +22,12 @@ PAGE = f"""# A heading of a page
 {LONG} six, behind a block of code, which stands where nothing counts.
 ```
 
+1. An item
+   ```
+   where
+   ```
+   that continues.
+
 | Word | Cell |
 |---|---|
 | `{LONG}` | {LONG[:95]} |
@@ -63,8 +69,8 @@ def lines_of(pieces):
 def counting():
     found = lines_of(prose.pieces_of_markdown(PAGE))
     assert found["sentences"] == [(5, "a sentence of 26 words")], found["sentences"]
-    assert found["cells"] == [(16, "a cell of 21 words")], found["cells"]
-    assert sorted(found["words"]) == [(18, "at once"), (18, "behind"), (18, "works")], found["words"]
+    assert found["cells"] == [(22, "a cell of 21 words")], found["cells"]
+    assert sorted(found["words"]) == [(24, "at once"), (24, "behind"), (24, "works")], found["words"]
     found = lines_of(prose.pieces_of_manual(MANUAL))
     assert found["sentences"] == [(15, "a sentence of 26 words")], found["sentences"]
     assert sorted(found["words"]) == [(6, "behind"), (6, "stands"), (6, "where")], found["words"]

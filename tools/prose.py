@@ -70,7 +70,7 @@ def plain(text):
 
 def pieces_of_markdown(content):
     """The pieces of a page in Markdown. Blocks of code have none."""
-    text = re.sub(r"^```.*?^```$|<!--.*?-->", lambda it: "\n" * it[0].count("\n"), content, flags=re.S | re.M)
+    text = re.sub(r"^ *```.*?^ *```$|<!--.*?-->", lambda it: "\n" * it[0].count("\n"), content, flags=re.S | re.M)
     pieces, is_open = [], False
     for number, line in enumerate(text.splitlines(), 1):
         bare = re.sub(r"^\s*(?:[-*]|\d+\.|#+|>) +(?:\[[ x]\] )?", "", line)
