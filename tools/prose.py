@@ -42,7 +42,7 @@ LISTED = {
     "of which": r"(?:of which|of whom|whose|of these)",
     "just": r"just",
     "a row a work": r"an? (?:row|line|column|letter|mark|cell|second) an? \w+",
-    "the same": r"the (?:same|one|other|others)(?=[.,;:)]|$)",
+    "the same": r"(?<!all )(?<!one after )the (?:same|one|other|others)(?=[.,;:)]|$)",
     "ring": r"rings?",
     "wrong body": r"(?:wrong bod(?:y|ies)|teeth)",
     "aloud": r"aloud",
