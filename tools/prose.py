@@ -39,7 +39,7 @@ LISTED = {
     "at once": r"at once",
     "takes turns": r"(?:tak(?:es?|ing) turns|by turns|in turns)",
     "but for": r"but for",
-    "of which": r"(?:of which|of whom|whose|of these)",
+    "of which": r"(?:of which|of whom|whose)",
     "just": r"just",
     "a row a work": r"an? (?:row|line|column|letter|mark|cell|second) an? \w+",
     "the same": r"(?<!all )(?<!one after )the (?:same|one|other|others)(?=[.,;:)]|$)",
@@ -75,7 +75,7 @@ def pieces_of_markdown(content):
     for number, line in enumerate(text.splitlines(), 1):
         bare = re.sub(r"^\s*(?:[-*]|\d+\.|#+|>) +(?:\[[ x]\] )?", "", line)
         if line.startswith("|"):
-            cells = re.split(r"(?<!\\)\|", re.sub(r"`[^`]*`", CODE, line))[1:-1]
+            cells = re.split(r"(?<!\\)\|", re.sub(r"``.+?``|`[^`]*`", CODE, line))[1:-1]
             pieces += [Piece(number, cell.strip(), True) for cell in cells if re.search(r"\w", cell)]
             is_open = False
         elif not line.strip():
