@@ -57,7 +57,7 @@ def words_of_commands():
 
 def lacks(path, words):
     """Which words don't stand in the file."""
-    plain = text_of(path).replace("\\-", "-")
+    plain = re.sub(r"\\f[BIR]", " ", text_of(path)).replace("\\-", "-")
     return [f"{path} doesn't have {word}" for word in sorted(words) if not re.search(rf"(?<![\w-]){re.escape(word)}(?![\w-])", plain)]
 
 
