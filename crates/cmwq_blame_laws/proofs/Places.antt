@@ -32,7 +32,6 @@ use Rattle.cmwq_table.specs.Table.{after_all, answer, cancelled, delayed, effect
 use Rattle.cmwq_table.specs.declared.state.Pending.{Pending}
 use Rattle.cmwq_table.specs.declared.state.Running.{Running}
 use Rattle.cmwq_burning.proofs.Telling.{IsInPool, RunInPools, all-in_pools, run-in_pools}
-use Rattle.cmwq_burning.proofs.Keeping.{taken_off-keeps}
 use Rattle.cmwq_reasons.proofs.MoverLemmas.{some-first}
 
 -- A map's entries.
@@ -64,6 +63,26 @@ AreReady S s = EachIs (IsReadyIf S) s.pending
 
 abbrev RunReady : ScenarioContents → State → Type 0
 RunReady S s = EachIs (IsInPool S) s.running
+
+-- What is taken off leaves the instances that run.
+
+enlist-runs : (s : State) (pool : ℕ) (o : Option ℕ) → (enlist s pool o).running ≡ s.running
+enlist-runs s pool (Some w) = refl
+enlist-runs s pool None = refl
+
+fill_times-runs : (S : ScenarioContents) (queue pool n : ℕ) (s : State) → (fill_times S queue pool n s).running ≡ s.running
+fill_times-runs S queue pool zero s = refl
+fill_times-runs S queue pool (suc n) s = fill_times-runs S queue pool n (fill_one S queue pool s) ∙ enlist-runs s pool (cond (has_room S s queue pool) (first_inactive S s queue pool) None)
+
+fill_from-runs : (S : ScenarioContents) (queue : ℕ) (at : Place) (s : State) → (fill_from S queue at s).running ≡ s.running
+fill_from-runs S queue (Timer due cpu) s = refl
+fill_from-runs S queue (Inactive pool) s = fill_times-runs S queue pool (length S.works) s
+fill_from-runs S queue (Listed pool) s = fill_times-runs S queue pool (length S.works) s
+fill_from-runs S queue (Deferred pool) s = fill_times-runs S queue pool (length S.works) s
+
+taken_off-runs : (S : ScenarioContents) (s : State) (w : ℕ) (o : Option Pending) → (taken_off S s w o).running ≡ s.running
+taken_off-runs S s w (Some p) = fill_from-runs S (queue_of S w) p.place (with_pending s w None)
+taken_off-runs S s w None = refl
 
 module _ (S : ScenarioContents) where
   put : (s : State) (w : ℕ) (o : Option Pending) → IsReadyIf S o → AreReady S s → EachIs (IsReadyIf S) (slice_set s.pending w o)
@@ -195,7 +214,7 @@ module _ (S : ScenarioContents) where
       let on : State = onward s w r in
       let off : State = taken_off S on other.0 o in
       place_after-ready off other.0 cpu ticks there
-      (subst (EachIs (IsInPool S)) (sym (taken_off-keeps S on other.0 o).running) (onward-runs s w r within runs)) (taken_off-ready on other.0 o here ready)
+      (subst (EachIs (IsInPool S)) (sym (taken_off-runs S on other.0 o)) (onward-runs s w r within runs)) (taken_off-ready on other.0 o here ready)
 
   carried-ready : (s : State) (w : ℕ) (r : Running) (o : Op) → IsSetting S → IsOpInRange S o → r.pool < pool_count S → RunReady S s → AreReady S s
       → AreReady S (carry_out S s w r o).0
@@ -271,7 +290,7 @@ module _ (S : ScenarioContents) where
     delayed-ready w cpu ticks None within = place_after-ready s w cpu ticks within runs ready
 
     off-runs : (w : ℕ) (o : Option Pending) → RunReady S (taken_off S s w o)
-    off-runs w o = subst (λ (running : List (Option Running)). EachIs (IsInPool S) running) (sym (taken_off-keeps S s w o).running) runs
+    off-runs w o = subst (λ (running : List (Option Running)). EachIs (IsInPool S) running) (sym (taken_off-runs S s w o)) runs
 
     modified-ready : (w cpu ticks : ℕ) (o : Option Pending) → IsReadyIf S o → cpu < S.cpus → AreReady S (modified S s w cpu ticks o).0
     modified-ready w cpu ticks (Some p) here within =

@@ -1,6 +1,5 @@
 pub mod Bodies
-pub mod Choosing
 pub mod Conclusions
 pub mod Happening
-pub mod Keeping
+pub mod Settling
 pub mod Telling

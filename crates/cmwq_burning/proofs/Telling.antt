@@ -17,8 +17,9 @@ use Rattle.cmwq_table.specs.Moves as moves
 use Rattle.cmwq_table.specs.State.{State, running_at, start}
 use Rattle.cmwq_table.specs.Table.{after_all}
 use Rattle.cmwq_table.specs.declared.state.Running.{Running}
-use Rattle.cmwq_burning.specs.Burning.{burns_at, burns_before, finishes_work, is_end, is_start, starts_work, tells_event}
-use Rattle.cmwq_burning.proofs.Choosing.{IsSettled, burning-left}
+use Rattle.cmwq_table.specs.Told.{is_end, is_start, tells_event}
+use Rattle.cmwq_burning.specs.Burning.{burns_at, burns_before, finishes_work, starts_work}
+use Rattle.cmwq_burning.proofs.Settling.{IsSettled, burning-left}
 use Rattle.cmwq_burning.proofs.Happening.{Changes, Happens, IsAtEnd, IsAtStart, table-does}
 
 -- The pools are there.

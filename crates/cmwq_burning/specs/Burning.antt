@@ -1,32 +1,18 @@
 -- What an instance of a work burns, from the reply that tells that it starts to the one that tells that it finishes.
-use Rattle.std.specs.Prelude.{◌≡◌, ℕ, ◌+◌, Bool, true, false, ◌&&◌, List, [], ◌∷◌, Some, if◌then◌else◌, nat_lt, ◌==◌, take}
+use Rattle.std.specs.Prelude.{◌≡◌, ℕ, ◌+◌, Bool, true, false, ◌&&◌, List, [], ◌∷◌, Some, if◌then◌else◌, nat_lt, take}
 use Rattle.std.specs.List.{list_any, sum_by}
 use Rattle.cmwq_types.specs.Contents.{ScenarioContents}
 use Rattle.cmwq_types.specs.Scenario.{work_at}
 use Rattle.cmwq_types.specs.declared.instr.Instr.{Instr}
-use Rattle.cmwq_types.specs.declared.reply.Event.{Event}
-use Rattle.cmwq_types.specs.declared.reply.Event.TheVariants as event
 use Rattle.cmwq_types.specs.declared.reply.Reply.{Reply}
-use Rattle.cmwq_types.specs.declared.reply.Reply.TheVariants as reply
-use Rattle.cmwq_types.specs.declared.scenario.Op.{Op}
-use Rattle.cmwq_types.specs.declared.scenario.Op.TheVariants as op
 use Rattle.cmwq_table.specs.State.{State, running_at}
 use Rattle.cmwq_table.specs.declared.state.Running.{Running}
 use Rattle.cmwq_table.specs.Counts.{burns}
 use Rattle.cmwq_table.specs.Laws.{reply_to, state_after}
 use Rattle.cmwq_table.specs.Table.{after_all, replies_from}
+use Rattle.cmwq_table.specs.Told.{burn_of, is_end, is_start, tells_event}
 
 -- What a body burns.
-
--- the ticks that an operation burns
-abbrev pub burn_of : Op → ℕ
-burn_of (op.Burn ticks) = ticks
-burn_of (op.Sleep ticks) = 0
-burn_of (op.Queue work cpu) = 0
-burn_of op.Finish = 0
-burn_of (op.Delay work ticks) = 0
-burn_of (op.Mod work ticks) = 0
-burn_of (op.Cancel work) = 0
 
 -- the sum of the burns of the work's body
 abbrev pub burns_of_body : ScenarioContents → ℕ → ℕ
@@ -37,58 +23,6 @@ abbrev pub burns_before : ScenarioContents → ℕ → ℕ → ℕ
 burns_before S w pc = sum_by burn_of (take pc (work_at S w).body)
 
 -- What replies tell.
-
-abbrev pub is_start : Event → Bool
-is_start event.Starts = true
-is_start event.FinishesAndStarts = true
-is_start event.StartsOnRescuer = true
-is_start (event.Burns ticks) = false
-is_start (event.Sleeps ticks) = false
-is_start event.Wakes = false
-is_start event.Finishes = false
-is_start event.Defers = false
-is_start event.Fires = false
-is_start (event.Queues other already) = false
-is_start (event.QueuesDisabled other) = false
-is_start (event.Delays other ticks already) = false
-is_start (event.DelaysDisabled other ticks) = false
-is_start (event.Mods other ticks changed) = false
-is_start (event.ModsDisabled other ticks) = false
-is_start (event.Cancels other was) = false
-
-abbrev pub is_end : Event → Bool
-is_end event.Finishes = true
-is_end event.FinishesAndStarts = true
-is_end event.Starts = false
-is_end event.StartsOnRescuer = false
-is_end (event.Burns ticks) = false
-is_end (event.Sleeps ticks) = false
-is_end event.Wakes = false
-is_end event.Defers = false
-is_end event.Fires = false
-is_end (event.Queues other already) = false
-is_end (event.QueuesDisabled other) = false
-is_end (event.Delays other ticks already) = false
-is_end (event.DelaysDisabled other ticks) = false
-is_end (event.Mods other ticks changed) = false
-is_end (event.ModsDisabled other ticks) = false
-is_end (event.Cancels other was) = false
-
--- the reply tells of an event of the work that passes
-abbrev pub tells_event : (Event → Bool) → ℕ → Reply → Bool
-tells_event test w (reply.Event work event) = test event && (work.0 == w)
-tells_event test w reply.Queued = false
-tells_event test w reply.Already = false
-tells_event test w reply.Changed = false
-tells_event test w reply.Cancelled = false
-tells_event test w reply.NotPending = false
-tells_event test w (reply.Sync was flush) = false
-tells_event test w (reply.Flush flush) = false
-tells_event test w reply.Done = false
-tells_event test w reply.Yes = false
-tells_event test w reply.No = false
-tells_event test w (reply.Found found) = false
-tells_event test w (reply.Refused refusal) = false
 
 -- the reply tells that an instance of the work starts, on a worker, in place of the one that finishes, or on a rescuer
 abbrev pub starts_work : ℕ → Reply → Bool

@@ -21,7 +21,7 @@ use Rattle.cmwq_table.specs.State.{State, pending_at, running_at, start}
 use Rattle.cmwq_table.specs.Table.{table}
 use Rattle.cmwq_table.specs.declared.state.Pending.{Pending}
 use Rattle.cmwq_table.specs.declared.state.Running.{Running}
-use Rattle.cmwq_burning.specs.Burning.{is_end}
+use Rattle.cmwq_table.specs.Told.{is_end}
 use Rattle.cmwq_events.specs.KernelTasks.{executor, task_cpu}
 use Rattle.cmwq_events.specs.declared.doer.Doer.{Doer}
 use Rattle.cmwq_events.specs.declared.kernel_event.KernelEvent.{KernelEvent}

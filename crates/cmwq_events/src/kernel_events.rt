@@ -1,5 +1,5 @@
 //! The events of a run, as they come.
-ghost use Rattle.cmwq_burning.specs.Burning.{is_end};
+ghost use Rattle.cmwq_table.specs.Told.{is_end};
 ghost use Rattle.cmwq_events.specs.Followed.{LeadsTo, followed_on, none_followed};
 ghost use Rattle.cmwq_events.specs.KernelEvents.{activate_events, cpus_traced, end_events, event_by, instance_events, instr_events, pool_of_place, queue_events, start_events};
 ghost use Rattle.cmwq_table.specs.Laws.{tells_wake};

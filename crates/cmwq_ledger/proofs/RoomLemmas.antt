@@ -19,7 +19,8 @@ use Rattle.cmwq_table.specs.declared.state.Running.{Running}
 use Rattle.cmwq_ledger.specs.Books.{BooksContents, books_after, books_begun}
 use Rattle.cmwq_ledger.specs.Bounds.{AreBooksWithin, AreCountsWithin, AreQueuesWithin, AreTotalsWithin, AreWithin, IsLedgerWithin, IsQueueWithin, IsAccountWithin}
 use Rattle.cmwq_ledger.specs.Contents.{LedgerContents, TotalsContents}
-use Rattle.cmwq_ledger.specs.Ledger.{account_at, account_or_new, all_opened, cancelled_by, finished_by, ledger_by, ledger_finished, ledger_moved, ledger_started, ledger_ticked, lines_by, started_by, without_account}
+use Rattle.cmwq_table.specs.Told.{cancelled_by, finished_by, started_by}
+use Rattle.cmwq_ledger.specs.Ledger.{account_at, account_or_new, all_opened, ledger_by, ledger_finished, ledger_moved, ledger_started, ledger_ticked, lines_by, without_account}
 use Rattle.cmwq_ledger.specs.Totals.{burner_counted, burners_counted, for_work, idle_counted, instances_counted, is_idle_cpu, lines_counted, most_counted, nothing_counted, one_counted, one_more_at, rescued_by, totals_by, totals_ended, totals_moved, totals_ticked}
 use Rattle.cmwq_ledger.specs.declared.account.Account.{Account}
 use Rattle.cmwq_ledger.specs.declared.queue_totals.Count.{Count}

@@ -3,16 +3,12 @@ use Rattle.std.specs.Prelude.{ℕ, ◌+◌, Bool, true, false, List, [], ◌∷�
 use Rattle.std.specs.List.{flat_map}
 use Rattle.cmwq_types.specs.Contents.{ScenarioContents}
 use Rattle.cmwq_types.specs.declared.instr.Instr.{Instr}
-use Rattle.cmwq_types.specs.declared.instr.Instr.TheVariants as instr
-use Rattle.cmwq_types.specs.declared.reply.Event.{Event}
-use Rattle.cmwq_types.specs.declared.reply.Event.TheVariants as event
 use Rattle.cmwq_types.specs.declared.reply.Reply.{Reply}
-use Rattle.cmwq_types.specs.declared.reply.Reply.TheVariants as reply
 use Rattle.cmwq_table.specs.State.{State, pending_at, running_at}
 use Rattle.cmwq_table.specs.Table.{table}
 use Rattle.cmwq_table.specs.declared.state.Pending.{Pending}
 use Rattle.cmwq_table.specs.declared.state.Running.{Running}
-use Rattle.cmwq_burning.specs.Burning.{is_end, is_start}
+use Rattle.cmwq_table.specs.Told.{cancelled_by, finished_by, started_by}
 use Rattle.cmwq_picture.specs.Picture.{below, place_sign, run_sign}
 use Rattle.cmwq_picture.specs.declared.cell.Sign.{Sign}
 use Rattle.cmwq_picture.specs.declared.cell.Sign.TheVariants as sign
@@ -91,47 +87,6 @@ lets_pass s after = nat_lt s.time after.time
 
 abbrev pub ledger_passed : ScenarioContents → State → State → LedgerContents → LedgerContents
 ledger_passed S s after L = if lets_pass s after then ledger_ticked S s L else L
-
--- What replies tell.
-
-abbrev pub work_if : Bool → ℕ → Option ℕ
-work_if holds w = if holds then Some w else None
-
--- the work whose running half ends
-abbrev pub finished_by : Reply → Option ℕ
-finished_by (reply.Event work event) = work_if (is_end event) work.0
-finished_by other = None
-
--- the work whose pending half begins to run
-abbrev pub started_by : Reply → Option ℕ
-started_by (reply.Event work event) = work_if (is_start event) work.0
-started_by other = None
-
--- what was pending was taken off
-abbrev pub tells_taken_off : Reply → Bool
-tells_taken_off reply.Cancelled = true
-tells_taken_off reply.Changed = true
-tells_taken_off (reply.Sync was flush) = was
-tells_taken_off other = false
-
--- the work that an instruction takes off where it is pending
-abbrev pub work_to_take_off : Instr → Option ℕ
-work_to_take_off (instr.Mod w cpu ticks) = Some w.0
-work_to_take_off (instr.Cancel w) = Some w.0
-work_to_take_off (instr.CancelSync w) = Some w.0
-work_to_take_off (instr.Disable w) = Some w.0
-work_to_take_off other = None
-
--- the work that an operation of a body took off
-abbrev pub taken_off_in : Event → Option ℕ
-taken_off_in (event.Mods other ticks changed) = work_if changed other.0
-taken_off_in (event.Cancels other was) = work_if was other.0
-taken_off_in other = None
-
--- the work whose pending half an instruction ends, by its reply: itself, or by an operation of a body
-abbrev pub cancelled_by : Instr → Reply → Option ℕ
-cancelled_by i (reply.Event work event) = taken_off_in event
-cancelled_by i other = if tells_taken_off other then work_to_take_off i else None
 
 -- Ends and beginnings.
 

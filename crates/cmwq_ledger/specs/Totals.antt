@@ -12,7 +12,8 @@ use Rattle.cmwq_table.specs.State.{State, running_at}
 use Rattle.cmwq_table.specs.Table.{table}
 use Rattle.cmwq_table.specs.declared.state.Running.{Running}
 use Rattle.cmwq_ledger.specs.Contents.{LedgerContents, TotalsContents}
-use Rattle.cmwq_ledger.specs.Ledger.{cancelled_by, finished_by, ledger_after, lets_pass, lines_ending_at, queued_ticks, started_by, work_if}
+use Rattle.cmwq_table.specs.Told.{cancelled_by, finished_by, started_by, work_if}
+use Rattle.cmwq_ledger.specs.Ledger.{ledger_after, lets_pass, lines_ending_at, queued_ticks}
 use Rattle.cmwq_ledger.specs.declared.queue_totals.Count.{Count}
 use Rattle.cmwq_ledger.specs.declared.queue_totals.Count.TheVariants as count
 use Rattle.cmwq_ledger.specs.declared.queue_totals.QueueTotals.{QueueTotals}

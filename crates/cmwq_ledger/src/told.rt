@@ -1,6 +1,5 @@
 //! What replies tell of instances that end and begin to run.
-ghost use Rattle.cmwq_burning.specs.Burning.{is_end, is_start};
-ghost use Rattle.cmwq_ledger.specs.Ledger.{cancelled_by, finished_by, started_by, taken_off_in, tells_taken_off, work_to_take_off};
+ghost use Rattle.cmwq_table.specs.Told.{cancelled_by, finished_by, is_end, is_start, started_by, taken_off_in, tells_taken_off, work_to_take_off};
 ghost use Rattle.cmwq_ledger.specs.Totals.{is_rescue, rescued_by};
 ghost use Rattle.std.specs.Prelude.{◌≡◌};
 

@@ -19,9 +19,9 @@ use Rattle.cmwq_burning.specs.Burning.{finishes_work, starts_work}
 use Rattle.cmwq_burning.proofs.Happening.{table-does}
 use Rattle.cmwq_burning.proofs.Telling.{RunInPools, run-in_pools, table-in_pools}
 use Rattle.cmwq_ledger.specs.Contents.{LedgerContents}
-use Rattle.cmwq_ledger.specs.Ledger.{account_at, account_or_new, cancelled_by, empty_ledger, finished_by, ledger_after, ledger_from, lets_pass, pending_ticked, running_ticked, started_by}
+use Rattle.cmwq_table.specs.Told.{cancelled_by, finished_by, requested_by, started_by}
+use Rattle.cmwq_ledger.specs.Ledger.{account_at, account_or_new, empty_ledger, ledger_after, ledger_from, lets_pass, pending_ticked, running_ticked}
 use Rattle.cmwq_ledger.specs.declared.account.Account.{Account}
-use Rattle.cmwq_ledger_laws.specs.Requests.{requested_by}
 use Rattle.cmwq_ledger_laws.proofs.Halves.{Pends, Runs, finished-tells, pending-half, running-half, started-tells}
 use Rattle.cmwq_ledger_laws.proofs.Stepping.{by-long, by-pending, by-running, pending_passed, running_passed}
 use Rattle.cmwq_ledger_laws.proofs.Turning.{table-long, table-turns}

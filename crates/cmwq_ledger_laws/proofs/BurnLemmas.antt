@@ -20,7 +20,8 @@ use Rattle.cmwq_table.specs.declared.state.Running.{Running}
 use Rattle.cmwq_picture.specs.Picture.{place_sign}
 use Rattle.cmwq_burning.proofs.Telling.{IsInPool, RunInPools}
 use Rattle.cmwq_ledger.specs.Contents.{LedgerContents, TotalsContents}
-use Rattle.cmwq_ledger.specs.Ledger.{account_at, cancelled_by, empty_ledger, finished_by, ledger_after, ledger_from, lets_pass, lines_ending_at, lines_from, one_tick_more, pending_ticked, running_ticked, started_by, still_lines}
+use Rattle.cmwq_table.specs.Told.{cancelled_by, finished_by, requested_by, started_by}
+use Rattle.cmwq_ledger.specs.Ledger.{account_at, empty_ledger, ledger_after, ledger_from, lets_pass, lines_ending_at, lines_from, one_tick_more, pending_ticked, running_ticked, still_lines}
 use Rattle.cmwq_ledger.specs.Totals.{at_queue, burner_counted, burners_counted, for_work, instances_counted, lines_counted, nothing_counted, one_counted, one_more_at, rescued_by, totals_after, totals_begun, totals_ended, totals_from, totals_passed, totals_ticked}
 use Rattle.cmwq_ledger.specs.declared.account.Account.{Account}
 use Rattle.cmwq_ledger.specs.declared.account.Ticks.{Ticks}
@@ -28,7 +29,6 @@ use Rattle.cmwq_ledger.specs.declared.queue_totals.Count.TheVariants as count
 use Rattle.cmwq_ledger.specs.declared.queue_totals.QueueTotals.{QueueTotals}
 use Rattle.cmwq_ledger.specs.declared.times_line.TimesLine.{TimesLine}
 use Rattle.cmwq_ledger_laws.specs.Laws.{burned_by}
-use Rattle.cmwq_ledger_laws.specs.Requests.{requested_by}
 use Rattle.cmwq_ledger_laws.proofs.Agreeing.{IsKept, next-kept}
 use Rattle.cmwq_ledger_laws.proofs.Counting.{bit}
 use Rattle.cmwq_ledger_laws.proofs.Measuring.{Measure, amount, asked, left-amount, of_line, start-amount, step-balance, total, total_passed}

@@ -12,7 +12,8 @@ use Rattle.cmwq_table.specs.Counts.{is_some_work}
 use Rattle.cmwq_table.specs.Laws.{reply_to, state_after}
 use Rattle.cmwq_table.specs.State.{State, pending_at, running_at, start}
 use Rattle.cmwq_ledger.specs.Contents.{LedgerContents, TotalsContents}
-use Rattle.cmwq_ledger.specs.Ledger.{account_at, account_line, cancelled_by, finished_by, ledger_after, ledger_passed, line_of_ended, lines_ending_at, lines_from, started_by}
+use Rattle.cmwq_table.specs.Told.{cancelled_by, finished_by, requested_by, started_by}
+use Rattle.cmwq_ledger.specs.Ledger.{account_at, account_line, ledger_after, ledger_passed, line_of_ended, lines_ending_at, lines_from}
 use Rattle.cmwq_ledger.specs.Totals.{nothing_counted, totals_after, totals_begun, totals_ended, totals_from}
 use Rattle.cmwq_ledger.specs.declared.account.Account.{Account}
 use Rattle.cmwq_ledger.specs.declared.queue_totals.QueueTotals.{QueueTotals}
@@ -20,7 +21,6 @@ use Rattle.cmwq_ledger.specs.declared.times_line.Fate.{Fate}
 use Rattle.cmwq_ledger.specs.declared.times_line.Fate.TheVariants.{Cancelled, Finished}
 use Rattle.cmwq_ledger.specs.declared.times_line.TimesLine.{TimesLine}
 use Rattle.cmwq_ledger_laws.specs.Laws.{is_cancelled, is_finished, is_of_queue}
-use Rattle.cmwq_ledger_laws.specs.Requests.{requested_by}
 use Rattle.cmwq_ledger_laws.proofs.Agreeing.{IsKept, next-kept, pending-passed-some, pends-at, running-passed-some, runs-at}
 use Rattle.cmwq_ledger_laws.proofs.Counting.{bit, is_some_in}
 use Rattle.cmwq_ledger_laws.proofs.Measuring.{pends-end}

@@ -10,9 +10,9 @@ use Rattle.cmwq_types.specs.declared.reply.Reply.TheVariants as reply
 use Rattle.cmwq_table.specs.Counts.{is_some_work}
 use Rattle.cmwq_table.specs.State.{State, pending_at, running_at}
 use Rattle.cmwq_table.specs.declared.state.Running.{Running}
-use Rattle.cmwq_burning.specs.Burning.{finishes_work, is_end, is_start, starts_work}
+use Rattle.cmwq_table.specs.Told.{finished_by, is_end, is_start, started_by, work_if}
+use Rattle.cmwq_burning.specs.Burning.{finishes_work, starts_work}
 use Rattle.cmwq_burning.proofs.Happening.{Changes, Happens}
-use Rattle.cmwq_ledger.specs.Ledger.{finished_by, started_by, work_if}
 use Rattle.cmwq_ledger_laws.proofs.Ticking.{tick-some}
 use Rattle.cmwq_ledger_laws.proofs.Turning.{Turns}
 

@@ -8,7 +8,8 @@ use Rattle.cmwq_table.specs.Laws.{reply_to, state_after}
 use Rattle.cmwq_table.specs.State.{State}
 use Rattle.cmwq_table.specs.Table.{after_all}
 use Rattle.cmwq_ledger.specs.Contents.{LedgerContents}
-use Rattle.cmwq_ledger.specs.Ledger.{account_at, cancelled_by, finished_by, ledger_after, ledger_passed, line_of_ended, lines_ending_at, lines_from}
+use Rattle.cmwq_table.specs.Told.{cancelled_by, finished_by}
+use Rattle.cmwq_ledger.specs.Ledger.{account_at, ledger_after, ledger_passed, line_of_ended, lines_ending_at, lines_from}
 use Rattle.cmwq_ledger.specs.declared.account.Account.{Account}
 use Rattle.cmwq_ledger.specs.declared.times_line.Fate.{Fate}
 use Rattle.cmwq_ledger.specs.declared.times_line.Fate.TheVariants.{Cancelled, Finished}

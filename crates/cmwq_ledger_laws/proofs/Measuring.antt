@@ -13,12 +13,12 @@ use Rattle.cmwq_table.specs.State.{State, pending_at, running_at}
 use Rattle.cmwq_table.specs.Table.{table}
 use Rattle.cmwq_table.specs.declared.state.Pending.{Pending}
 use Rattle.cmwq_ledger.specs.Contents.{LedgerContents}
-use Rattle.cmwq_ledger.specs.Ledger.{account_at, account_or_new, cancelled_by, empty_ledger, finished_by, ledger_after, ledger_passed, account_line, line_of_ended, line_of_pending, lines_ending_at, new_account, started_by, still_lines, still_of}
+use Rattle.cmwq_table.specs.Told.{cancelled_by, finished_by, requested_by, started_by}
+use Rattle.cmwq_ledger.specs.Ledger.{account_at, account_or_new, empty_ledger, ledger_after, ledger_passed, account_line, line_of_ended, line_of_pending, lines_ending_at, new_account, still_lines, still_of}
 use Rattle.cmwq_ledger.specs.declared.account.Account.{Account}
 use Rattle.cmwq_ledger.specs.declared.times_line.Fate.{Fate}
 use Rattle.cmwq_ledger.specs.declared.times_line.Fate.TheVariants.{Cancelled, Finished, StillPending, StillRunning}
 use Rattle.cmwq_ledger.specs.declared.times_line.TimesLine.{TimesLine}
-use Rattle.cmwq_ledger_laws.specs.Requests.{requested_by}
 use Rattle.cmwq_ledger_laws.proofs.Agreeing.{IsKept, pending-passed-some, pends-at, running-passed-some, runs-at}
 use Rattle.cmwq_ledger_laws.proofs.Counting.{IsBelow}
 use Rattle.cmwq_ledger_laws.proofs.Halves.{Pends, Runs}

@@ -17,7 +17,8 @@ use Rattle.cmwq_picture.specs.Picture.{place_sign, run_sign}
 use Rattle.cmwq_picture.specs.declared.cell.Sign.{Sign}
 use Rattle.cmwq_picture.specs.declared.cell.Sign.TheVariants as sign
 use Rattle.cmwq_ledger.specs.Contents.{LedgerContents}
-use Rattle.cmwq_ledger.specs.Ledger.{account_at, account_or_new, all_ticks, cancelled_by, empty_ledger, finished_by, ledger_after, ledger_from, ledger_passed, lets_pass, lines_ending_at, lines_from, line_of_ended, one_tick_more, pending_ticked, running_ticked, started_by, still_lines}
+use Rattle.cmwq_table.specs.Told.{cancelled_by, finished_by, started_by}
+use Rattle.cmwq_ledger.specs.Ledger.{account_at, account_or_new, all_ticks, empty_ledger, ledger_after, ledger_from, ledger_passed, lets_pass, lines_ending_at, lines_from, line_of_ended, one_tick_more, pending_ticked, running_ticked, still_lines}
 use Rattle.cmwq_ledger.specs.declared.account.Account.{Account}
 use Rattle.cmwq_ledger.specs.declared.account.Ticks.{Ticks}
 use Rattle.cmwq_ledger.specs.declared.times_line.Fate.{Fate}

@@ -11,10 +11,10 @@ use Rattle.cmwq_table.specs.Table.{after_all}
 use Rattle.cmwq_table.specs.declared.state.Pending.{Pending}
 use Rattle.cmwq_table.specs.declared.state.Running.{Running}
 use Rattle.cmwq_ledger.specs.Contents.{LedgerContents}
-use Rattle.cmwq_ledger.specs.Ledger.{account_at, cancelled_by, empty_ledger, ledger_after, ledger_from, lets_pass, lines_ending_at, lines_from, new_account, pending_ticked, running_ticked, started_by, still_lines}
+use Rattle.cmwq_table.specs.Told.{cancelled_by, requested_by, started_by}
+use Rattle.cmwq_ledger.specs.Ledger.{account_at, empty_ledger, ledger_after, ledger_from, lets_pass, lines_ending_at, lines_from, new_account, pending_ticked, running_ticked, still_lines}
 use Rattle.cmwq_ledger.specs.declared.account.Account.{Account}
 use Rattle.cmwq_ledger_laws.specs.Laws.{asks_at, is_since, requests_from}
-use Rattle.cmwq_ledger_laws.specs.Requests.{requested_by}
 use Rattle.cmwq_ledger_laws.proofs.Agreeing.{IsKept, next-kept, pends-at}
 use Rattle.cmwq_ledger_laws.proofs.Counting.{IsBelow, bit}
 use Rattle.cmwq_ledger_laws.proofs.Halves.{Pends}

@@ -14,7 +14,8 @@ use Rattle.cmwq_types.specs.declared.check.Fault.TheVariants.{BadBody, Duplicate
 use Rattle.cmwq_types.specs.declared.limits.TheConstants.{MAX_OPS}
 use Rattle.cmwq_types.specs.declared.scenario.Op.{Op}
 use Rattle.cmwq_types.specs.declared.scenario.Op.TheVariants as op
-use Rattle.cmwq_ledger_laws.specs.Sleeps.{sleep_of, sleeps_before, sleeps_of_body}
+use Rattle.cmwq_table.specs.Told.{sleep_of}
+use Rattle.cmwq_ledger_laws.specs.Sleeps.{sleeps_before, sleeps_of_body}
 
 -- One operation more.
 

@@ -16,17 +16,19 @@ use Rattle.cmwq_table.specs.Laws.{reply_to, state_after}
 use Rattle.cmwq_table.specs.Moves.{one_less}
 use Rattle.cmwq_table.specs.State.{State, is_unbound, running_at}
 use Rattle.cmwq_table.specs.declared.state.Running.{Running}
-use Rattle.cmwq_burning.specs.Burning.{finishes_work, is_end, is_start, starts_work}
-use Rattle.cmwq_burning.proofs.Choosing.{IsSettled}
+use Rattle.cmwq_table.specs.Told.{is_end, is_start}
+use Rattle.cmwq_burning.specs.Burning.{finishes_work, starts_work}
+use Rattle.cmwq_burning.proofs.Settling.{IsSettled}
 use Rattle.cmwq_burning.proofs.Telling.{IsInPool, RunInPools}
 use Rattle.cmwq_ledger_laws.specs.Sleeps.{sleeps_before}
 use Rattle.cmwq_ledger_laws.proofs.Halves.{both-false, both-true}
-use Rattle.cmwq_ledger_laws.proofs.Sleeping.{IfSome, IsAwake, Lets, Rests, runnable-awake, settled-sleep, still, table-lets}
+use Rattle.cmwq_table.proofs.Choosing.{IfThere}
+use Rattle.cmwq_ledger_laws.proofs.Sleeping.{IsAwake, Lets, Rests, runnable-awake, settled-sleep, still, table-lets}
 use Rattle.cmwq_ledger_laws.proofs.Ticking.{tick-at}
 
 -- Who burns is awake.
 
-awake-here : (s : State) (o : Option ℕ) (w : ℕ) → IfSome (IsAwake s) o → is_some_work o w ≡ true → IsAwake s w
+awake-here : (s : State) (o : Option ℕ) (w : ℕ) → IfThere (IsAwake s) o → is_some_work o w ≡ true → IsAwake s w
 awake-here s (Some v) w awake e = subst (IsAwake s) (eqb-true v w e) awake
 awake-here s None w awake e = cc
 

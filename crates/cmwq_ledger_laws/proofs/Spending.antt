@@ -25,7 +25,8 @@ use Rattle.cmwq_burning.proofs.Bodies as bodies
 use Rattle.cmwq_burning.proofs.Happening.{Happens, table-does}
 use Rattle.cmwq_burning.proofs.Telling.{Begins, Ends, GoesOn, Told, table-told}
 use Rattle.cmwq_ledger.specs.Contents.{LedgerContents}
-use Rattle.cmwq_ledger.specs.Ledger.{account_at, account_or_new, cancelled_by, empty_ledger, finished_by, ledger_after, ledger_from, ledger_passed, lets_pass, line_of_ended, lines_ending_at, lines_from, one_tick_more, pending_ticked, running_ticked, started_by, still_lines}
+use Rattle.cmwq_table.specs.Told.{cancelled_by, finished_by, started_by}
+use Rattle.cmwq_ledger.specs.Ledger.{account_at, account_or_new, empty_ledger, ledger_after, ledger_from, ledger_passed, lets_pass, line_of_ended, lines_ending_at, lines_from, one_tick_more, pending_ticked, running_ticked, still_lines}
 use Rattle.cmwq_ledger.specs.declared.account.Account.{Account}
 use Rattle.cmwq_ledger.specs.declared.account.Ticks.{Ticks}
 use Rattle.cmwq_ledger.specs.declared.times_line.Fate.TheVariants.{Cancelled, Finished, StillRunning}

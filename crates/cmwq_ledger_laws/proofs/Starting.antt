@@ -14,12 +14,12 @@ use Rattle.cmwq_table.specs.State.{State, pending_at, running_at, start}
 use Rattle.cmwq_table.specs.Table.{after_all}
 use Rattle.cmwq_table.specs.declared.state.Running.{Running}
 use Rattle.cmwq_ledger.specs.Contents.{LedgerContents, TotalsContents}
-use Rattle.cmwq_ledger.specs.Ledger.{cancelled_by, finished_by, ledger_after, lines_ending_at, started_by}
+use Rattle.cmwq_table.specs.Told.{cancelled_by, finished_by, requested_by, started_by}
+use Rattle.cmwq_ledger.specs.Ledger.{ledger_after, lines_ending_at}
 use Rattle.cmwq_ledger.specs.Totals.{nothing_counted, totals_after, totals_begun, totals_ended, totals_from}
 use Rattle.cmwq_ledger.specs.declared.queue_totals.QueueTotals.{QueueTotals}
 use Rattle.cmwq_ledger.specs.declared.times_line.TimesLine.{TimesLine}
 use Rattle.cmwq_ledger_laws.specs.Laws.{running_of_queue}
-use Rattle.cmwq_ledger_laws.specs.Requests.{requested_by}
 use Rattle.cmwq_ledger_laws.proofs.Agreeing.{IsKept, begins-was, next-kept, none-there, pends-at, runs-at}
 use Rattle.cmwq_ledger_laws.proofs.Counting.{IsBelow, bit, count-balance, count-none, count-work, is_some_in}
 use Rattle.cmwq_ledger_laws.proofs.Halves.{Runs}

@@ -12,7 +12,8 @@ use Rattle.cmwq_table.specs.State.{State, pending_at, running_at}
 use Rattle.cmwq_table.specs.declared.state.Pending.{Pending}
 use Rattle.cmwq_table.specs.declared.state.Running.{Running}
 use Rattle.cmwq_ledger.specs.Contents.{LedgerContents}
-use Rattle.cmwq_ledger.specs.Ledger.{account_at, account_or_new, all_opened, all_pending_ticked, all_running_ticked, cancelled_by, finished_by, ledger_by, ledger_cancelled, ledger_finished, ledger_passed, ledger_started, ledger_ticked, lets_pass, pending_ticked, running_ticked, started_by, without_account}
+use Rattle.cmwq_table.specs.Told.{cancelled_by, finished_by, started_by}
+use Rattle.cmwq_ledger.specs.Ledger.{account_at, account_or_new, all_opened, all_pending_ticked, all_running_ticked, ledger_by, ledger_cancelled, ledger_finished, ledger_passed, ledger_started, ledger_ticked, lets_pass, pending_ticked, running_ticked, without_account}
 use Rattle.cmwq_ledger.specs.declared.account.Account.{Account}
 
 -- Lists.

@@ -12,7 +12,8 @@ use Rattle.cmwq_table.specs.Counts.{burns}
 use Rattle.cmwq_table.specs.State.{State, running_at}
 use Rattle.cmwq_table.specs.declared.state.Running.{Running}
 use Rattle.cmwq_ledger.specs.Contents.{TotalsContents}
-use Rattle.cmwq_ledger.specs.Ledger.{cancelled_by, finished_by, lets_pass, queued_ticks, started_by}
+use Rattle.cmwq_table.specs.Told.{cancelled_by, finished_by, started_by}
+use Rattle.cmwq_ledger.specs.Ledger.{lets_pass, queued_ticks}
 use Rattle.cmwq_ledger.specs.Totals.{as_long_as, at_most, at_queue, burner_counted, burners_counted, for_work, instances_counted, lines_counted, most_active, most_counted, nothing_counted, one_counted, rescued_by, totals_by, totals_passed, totals_ticked}
 use Rattle.cmwq_ledger.specs.declared.queue_totals.Count.{Count}
 use Rattle.cmwq_ledger.specs.declared.queue_totals.Count.TheVariants as count

@@ -19,7 +19,7 @@ use Rattle.cmwq_ledger.specs.declared.queue_totals.QueueTotals.{QueueTotals}
 use Rattle.cmwq_ledger.specs.declared.times_line.Fate.{Fate}
 use Rattle.cmwq_ledger.specs.declared.times_line.Fate.TheVariants.{Finished, Cancelled, StillPending, StillRunning}
 use Rattle.cmwq_ledger.specs.declared.times_line.TimesLine.{TimesLine}
-use Rattle.cmwq_ledger_laws.specs.Requests.{requested_by}
+use Rattle.cmwq_table.specs.Told.{requested_by}
 use Rattle.cmwq_ledger_laws.specs.Sleeps.{sleeps_of_body}
 
 -- Runs from the start.

@@ -6,7 +6,7 @@ use Rattle.cmwq_types.specs.Contents.{ScenarioContents}
 use Rattle.cmwq_types.specs.declared.reply.Reply.{Reply}
 use Rattle.cmwq_types.specs.declared.reply.Reply.TheVariants as reply
 use Rattle.cmwq_table.specs.State.{State, running_at}
-use Rattle.cmwq_burning.specs.Burning.{is_end, is_start}
+use Rattle.cmwq_table.specs.Told.{is_end, is_start}
 use Rattle.cmwq_slices.specs.Executions.{execution_begun, executions_after}
 use Rattle.cmwq_slices.specs.Slices.{phases_after, phases_from}
 use Rattle.cmwq_slices.specs.declared.executions.OpenExecution.{OpenExecution}

@@ -5,7 +5,7 @@ use Rattle.cmwq_types.specs.declared.reply.Reply.{Reply}
 use Rattle.cmwq_types.specs.declared.reply.Reply.TheVariants as reply
 use Rattle.cmwq_table.specs.State.{State, running_at}
 use Rattle.cmwq_table.specs.declared.state.Running.{Running}
-use Rattle.cmwq_burning.specs.Burning.{is_end, is_start}
+use Rattle.cmwq_table.specs.Told.{is_end, is_start}
 use Rattle.cmwq_slices.specs.declared.executions.Execution.{Execution}
 use Rattle.cmwq_slices.specs.declared.executions.OpenExecution.{OpenExecution}
 

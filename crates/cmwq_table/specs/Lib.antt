@@ -1,3 +1,4 @@
+pub mod Changes
 pub mod Counts
 pub mod Equality
 pub mod Events
@@ -9,4 +10,5 @@ pub mod Ready
 pub mod Repeats
 pub mod State
 pub mod Table
+pub mod Told
 pub mod View

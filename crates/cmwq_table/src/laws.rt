@@ -2,6 +2,10 @@
 //!
 //! Each function's contract is a law, over every valid scenario and every list of instructions. The functions
 //! do nothing: they carry the laws.
+ghost use Rattle.cmwq_types.specs.Contents.{ScenarioContents};
+ghost use Rattle.cmwq_types.specs.declared.instr.Instr.{Instr};
+ghost use Rattle.cmwq_table.specs.Changes.{ChangesWhatItSays};
+ghost use Rattle.cmwq_table.specs.State.{State};
 ghost use Rattle.cmwq_table.specs.Laws.{ActivatesInOrder, AtEveryInstruction, ChangesNothingAsked, ChangesNothingMet, ChangesNothingRefused, GoesInOrder, GoesOnAsNext, HasOneRescuer, InEveryState, IsDoneMet, IsNotPendingDisabled, LeavesNoRoom, ListsInOrder, RescuersWork, StartsAtLevelZero, TimeWaitsForStarts, RisesByWakes, RisesWithinLimit, IsNotReentrant, StayDone, TellsActive, WaitForInstances};
 ghost use Rattle.cmwq_table.specs.Ready.{HasCounters};
 
@@ -25,6 +29,13 @@ pub fn conditions_end_what_goes_on()
     ensures met { AtEveryInstruction ChangesNothingMet }
     ensures done { AtEveryInstruction IsDoneMet }
     ensures unmet { AtEveryInstruction GoesOnAsNext }
+{}
+
+/// Each instruction changes what its reply says, and nothing else, by one of a few kinds of change (`Changes`): inactive work items
+/// are listed, one work item is taken off or placed, one instance moves, a tick passes, or a caller sets a limit, a depth or a mode.
+#[tactic(auto, using(crate::proofs::Doings::changes_what_it_says))]
+pub fn instructions_change_what_replies_say()
+    ensures { (S : ScenarioContents) (s : State) (i : Instr) → ChangesWhatItSays S s i }
 {}
 
 /// A run comes to its end: no more instructions are accepted and spent than the scenario's `steps`, and at most

@@ -6,7 +6,7 @@ use Rattle.cmwq_types.specs.declared.reply.Place.{Place}
 use Rattle.cmwq_types.specs.declared.reply.Reply.{Reply}
 use Rattle.cmwq_types.specs.declared.reply.Reply.TheVariants as reply
 use Rattle.cmwq_types.specs.declared.reply.WorkRun.{WorkRun}
-use Rattle.cmwq_burning.specs.Burning.{is_start}
+use Rattle.cmwq_table.specs.Told.{is_start}
 use Rattle.cmwq_table.specs.State.{State, running_at}
 use Rattle.cmwq_table.specs.Table.{run_of}
 use Rattle.cmwq_table.specs.View.{entries_from}

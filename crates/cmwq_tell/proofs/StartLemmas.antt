@@ -17,7 +17,8 @@ use Rattle.cmwq_table.specs.Table.{run, run_of}
 use Rattle.cmwq_table.specs.View.{entries_from}
 use Rattle.cmwq_table.specs.declared.state.Pending.{Pending}
 use Rattle.cmwq_table.specs.declared.state.Running.{Running}
-use Rattle.cmwq_burning.specs.Burning.{finishes_work, is_end, is_start}
+use Rattle.cmwq_table.specs.Told.{is_end, is_start}
+use Rattle.cmwq_burning.specs.Burning.{finishes_work}
 use Rattle.cmwq_burning.proofs.Happening.{Changes, Happens, IsSilent, table-does}
 use Rattle.cmwq_tell.specs.declared.change.Change.{Change}
 use Rattle.cmwq_tell.specs.declared.change.Change.TheVariants as change

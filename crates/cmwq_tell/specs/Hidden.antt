@@ -13,7 +13,7 @@ use Rattle.cmwq_table.specs.State.{State, running_at}
 use Rattle.cmwq_table.specs.Table.{run_of}
 use Rattle.cmwq_table.specs.View.{entries_from}
 use Rattle.cmwq_table.specs.declared.state.Pending.{Pending}
-use Rattle.cmwq_burning.specs.Burning.{is_start}
+use Rattle.cmwq_table.specs.Told.{is_start}
 use Rattle.cmwq_tell.specs.declared.change.Change.{Change}
 use Rattle.cmwq_tell.specs.declared.change.Change.TheVariants as change
 

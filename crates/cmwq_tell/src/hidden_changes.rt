@@ -1,5 +1,5 @@
 //! The hidden changes of an instruction, read off the machine behind it.
-ghost use Rattle.cmwq_burning.specs.Burning.{is_start};
+ghost use Rattle.cmwq_table.specs.Told.{is_start};
 ghost use Rattle.cmwq_table.specs.State.{State};
 ghost use Rattle.cmwq_table.specs.Table.{run_of};
 ghost use Rattle.cmwq_table.specs.View.{entries_from};

@@ -17,12 +17,12 @@ use Rattle.cmwq_table.specs.State.{State, pending_at, running_at, start}
 use Rattle.cmwq_table.specs.Table.{replies_from, run, table}
 use Rattle.cmwq_table.specs.declared.state.Pending.{Pending}
 use Rattle.cmwq_table.specs.declared.state.Running.{Running}
-use Rattle.cmwq_burning.specs.Burning.{is_end}
+use Rattle.cmwq_table.specs.Told.{is_end, tells_of}
 use Rattle.cmwq_events.specs.KernelEvents.{activate_events, doer_of, end_events, event_by, instance_events, instr_events, kernel_events_from, pool_of_place, queue_events, stamped_below}
 use Rattle.cmwq_events.specs.declared.doer.Doer.{Doer}
 use Rattle.cmwq_events.specs.declared.kernel_event.Tracepoint.{Tracepoint}
 use Rattle.cmwq_events.specs.declared.kernel_event.Tracepoint.TheVariants as tracepoint
-use Rattle.cmwq_trace_laws.specs.EventLaws.{TellsActivated, TellsAllEnds, TellsEnds, count_events, count_replies, is_activated_anew, is_activating, is_ending, is_on_list, is_queued, is_queueing, tells_of}
+use Rattle.cmwq_trace_laws.specs.EventLaws.{TellsActivated, TellsAllEnds, TellsEnds, count_events, count_replies, is_activated_anew, is_activating, is_ending, is_on_list, is_queued, is_queueing}
 use Rattle.cmwq_trace_laws.proofs.WeighLemmas.{count-append, counted, events_in, pending_weight, running_weight}
 
 pub none-below : (n : ℕ) → count_below (λ w. false) n ≡ 0

@@ -18,7 +18,7 @@ use Rattle.cmwq_table.specs.State.{State, pending_at, running_at}
 use Rattle.cmwq_table.specs.declared.state.Pending.{Pending}
 use Rattle.cmwq_table.specs.declared.state.Running.{Running}
 use Rattle.cmwq_blame_laws.proofs.Places.{IsReadyIf}
-use Rattle.cmwq_burning.specs.Burning.{is_end}
+use Rattle.cmwq_table.specs.Told.{is_end}
 use Rattle.cmwq_events.specs.KernelEvents.{activate_events, doer_of, end_events, event_by, instance_events, instr_events, pool_of_place, put_by_stamp, put_if_new, put_pending, put_running, queue_events, stamp_of, stamped_below, start_events}
 use Rattle.cmwq_events.specs.KernelTasks.{task_pid}
 use Rattle.cmwq_events.specs.declared.doer.Doer.{Doer}

@@ -20,7 +20,8 @@ use Rattle.cmwq_table.specs.State.{State, pending_at, running_at, start}
 use Rattle.cmwq_table.specs.Table.{run, table}
 use Rattle.cmwq_table.specs.declared.state.Running.{Running}
 use Rattle.cmwq_burning.proofs.Happening.{Happens, table-does}
-use Rattle.cmwq_burning.specs.Burning.{finishes_work, is_end}
+use Rattle.cmwq_table.specs.Told.{is_end}
+use Rattle.cmwq_burning.specs.Burning.{finishes_work}
 use Rattle.cmwq_reasons.proofs.StaffLemmas.{run-staffed}
 use Rattle.cmwq_blame_laws.proofs.Places.{IsReadyIf, run-ready, running-in_range}
 use Rattle.cmwq_events.specs.KernelEvents.{instr_events, kernel_events, kernel_events_from}

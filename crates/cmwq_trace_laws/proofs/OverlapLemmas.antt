@@ -16,7 +16,8 @@ use Rattle.cmwq_table.specs.Counts.{burns}
 use Rattle.cmwq_table.specs.Laws.{HasOneRescuer, InEveryState}
 use Rattle.cmwq_table.specs.State.{State, running_at}
 use Rattle.cmwq_table.specs.Table.{run, table}
-use Rattle.cmwq_burning.specs.Burning.{is_end, is_start, starts_work}
+use Rattle.cmwq_table.specs.Told.{is_end, is_start, tells_of}
+use Rattle.cmwq_burning.specs.Burning.{starts_work}
 use Rattle.cmwq_burning.proofs.Happening.{Changes, Happens, table-does}
 use Rattle.cmwq_events.specs.KernelTasks.{executor}
 use Rattle.cmwq_events.specs.declared.kernel_task.KernelTask.{KernelTask}
@@ -24,7 +25,7 @@ use Rattle.cmwq_slices.specs.Executions.{execution_begun, execution_ended, execu
 use Rattle.cmwq_slices.specs.declared.executions.Execution.{Execution}
 use Rattle.cmwq_slices.specs.declared.executions.OpenExecution.{OpenExecution}
 use Rattle.cmwq_slices.proofs.CallerLemmas.{executions_after-length}
-use Rattle.cmwq_trace_laws.specs.EventLaws.{InOrder, NeverOverlaps, executions_from, executions_of, is_same_task, tells_of}
+use Rattle.cmwq_trace_laws.specs.EventLaws.{InOrder, NeverOverlaps, executions_from, executions_of, is_same_task}
 use Rattle.cmwq_trace_laws.proofs.AloneLemmas.{alone-at, one-more}
 use Rattle.cmwq_trace_laws.proofs.ExecutionLemmas.{Since, Tracks, TracksAt, by_it, closes, tracked}
 use Rattle.cmwq_trace_laws.proofs.StampLemmas.{RunMoves, table-moves}

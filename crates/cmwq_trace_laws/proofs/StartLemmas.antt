@@ -17,12 +17,13 @@ use Rattle.cmwq_table.specs.Laws.{AtEveryInstruction, is_wake, tells_wake}
 use Rattle.cmwq_table.specs.Moves.{burned, one_less}
 use Rattle.cmwq_table.specs.State.{State, pending_at, running_at, start}
 use Rattle.cmwq_table.specs.Table.{after_all, replies_from, run, table}
-use Rattle.cmwq_burning.specs.Burning.{is_start, starts_work}
+use Rattle.cmwq_table.specs.Told.{is_start, tells_of}
+use Rattle.cmwq_burning.specs.Burning.{starts_work}
 use Rattle.cmwq_burning.proofs.Happening.{Changes, Happens, IsSilent, table-does}
 use Rattle.cmwq_events.specs.KernelEvents.{doer_of, event_by, instr_events, kernel_events_from, start_events}
 use Rattle.cmwq_events.specs.declared.doer.Doer.{Doer}
 use Rattle.cmwq_events.specs.declared.kernel_event.Tracepoint.TheVariants as tracepoint
-use Rattle.cmwq_trace_laws.specs.EventLaws.{TellsAllStarts, TellsStarts, count_events, count_replies, events_at, is_starting, tells_of}
+use Rattle.cmwq_trace_laws.specs.EventLaws.{TellsAllStarts, TellsStarts, count_events, count_replies, events_at, is_starting}
 use Rattle.cmwq_trace_laws.proofs.CountLemmas.{end-count, instr-counts, none-below, pends-none}
 use Rattle.cmwq_trace_laws.proofs.StampLemmas.{IsSeat, RunMoves, StampFits, is_again, table-moves}
 use Rattle.cmwq_trace_laws.proofs.WeighLemmas.{count-append, running_weight}

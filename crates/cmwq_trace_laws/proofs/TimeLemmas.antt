@@ -14,7 +14,7 @@ use Rattle.cmwq_table.specs.Laws.{tells_wake}
 use Rattle.cmwq_table.specs.State.{State, start}
 use Rattle.cmwq_table.specs.Table.{table}
 use Rattle.cmwq_table.specs.declared.state.Pending.{Pending}
-use Rattle.cmwq_burning.specs.Burning.{is_end}
+use Rattle.cmwq_table.specs.Told.{is_end}
 use Rattle.cmwq_burning.proofs.Happening.{Happens, table-does}
 use Rattle.cmwq_events.specs.KernelEvents.{activate_events, doer_of, end_events, event_by, instance_events, instr_events, kernel_events_from, pool_of_place, queue_events, stamped_below, start_events}
 use Rattle.cmwq_events.specs.declared.doer.Doer.{Doer}

@@ -18,12 +18,13 @@ use Rattle.cmwq_table.specs.declared.state.Running.{Running}
 use Rattle.cmwq_table.specs.Counts.{burns}
 use Rattle.cmwq_table.specs.State.{State, pending_at, running_at}
 use Rattle.cmwq_table.specs.Table.{table}
-use Rattle.cmwq_burning.specs.Burning.{is_end, is_start, starts_work}
+use Rattle.cmwq_table.specs.Told.{is_end, is_start, tells_of}
+use Rattle.cmwq_burning.specs.Burning.{starts_work}
 use Rattle.cmwq_burning.proofs.Happening.{Changes, Happens, IsSilent, table-does}
 use Rattle.cmwq_events.specs.KernelEvents.{doer_of, end_events, instance_events, instr_events, mover, stamped_below, worker_of}
 use Rattle.cmwq_events.specs.declared.doer.Doer.{Doer}
 use Rattle.cmwq_events.specs.declared.kernel_task.KernelTask.{KernelTask}
-use Rattle.cmwq_trace_laws.specs.EventLaws.{count_events, is_ending, is_starting, tells_of}
+use Rattle.cmwq_trace_laws.specs.EventLaws.{count_events, is_ending, is_starting}
 use Rattle.cmwq_trace_laws.proofs.CountLemmas.{ends-told, rest-ends}
 use Rattle.cmwq_trace_laws.proofs.MarkLemmas.{StartsOf, StartsThis, both-of, ends-of, rest-of}
 use Rattle.cmwq_trace_laws.proofs.StampLemmas.{IsSeat, RunMoves, table-moves}

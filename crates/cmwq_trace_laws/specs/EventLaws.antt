@@ -5,16 +5,14 @@ use Rattle.cmwq_types.specs.Faults.{IsValid}
 use Rattle.cmwq_types.specs.First.{count_below}
 use Rattle.cmwq_types.specs.Places.{is_placed}
 use Rattle.cmwq_types.specs.declared.instr.Instr.{Instr}
-use Rattle.cmwq_types.specs.declared.reply.Event.{Event}
 use Rattle.cmwq_types.specs.declared.reply.Place.{Place}
 use Rattle.cmwq_types.specs.declared.reply.Place.TheVariants.{Timer, Inactive, Listed, Deferred}
 use Rattle.cmwq_types.specs.declared.reply.Reply.{Reply}
-use Rattle.cmwq_types.specs.declared.reply.Reply.TheVariants as reply
 use Rattle.cmwq_table.specs.Laws.{reply_to, state_after}
 use Rattle.cmwq_table.specs.State.{State, pending_at, start}
 use Rattle.cmwq_table.specs.Table.{replies, table}
 use Rattle.cmwq_table.specs.declared.state.Pending.{Pending}
-use Rattle.cmwq_burning.specs.Burning.{is_end, is_start}
+use Rattle.cmwq_table.specs.Told.{is_end, is_start, tells_of}
 use Rattle.cmwq_slices.specs.Executions.{execution_ended, executions_after, executions_to, no_executions}
 use Rattle.cmwq_slices.specs.declared.executions.Execution.{Execution}
 use Rattle.cmwq_slices.specs.declared.executions.OpenExecution.{OpenExecution}
@@ -70,11 +68,6 @@ is_ending (tracepoint.QueueWork cpu pool) = false
 is_ending tracepoint.ActivateWork = false
 is_ending tracepoint.ExecuteStart = false
 is_ending tracepoint.ExecuteEnd = true
-
--- the reply tells of an event that passes
-abbrev pub tells_of : (Event → Bool) → Reply → Bool
-tells_of test (reply.Event work event) = test event
-tells_of test other = false
 
 abbrev pub count_replies : (Reply → Bool) → List Reply → ℕ
 count_replies test [] = 0

@@ -31,7 +31,7 @@ use Rattle.cmwq_table.proofs.LawLemmas.Effects.{Effect, IsSettled, with_given}
 use Rattle.cmwq_table.proofs.LawLemmas.Fills.{waits-in_range}
 use Rattle.cmwq_table.proofs.LawLemmas.Instances.{BringsNoneBack, Follows-flushes, Follows-instances, Follows-next, Follows-time}
 use Rattle.cmwq_table.proofs.LawLemmas.Levels.{Follows-active, Follows-limit, RisesWithin}
-use Rattle.cmwq_table.proofs.LawLemmas.Moving.{listed-is_first, rescued-is_first}
+use Rattle.cmwq_table.proofs.Choosing.{listed-is_first, rescued-is_first}
 use Rattle.cmwq_table.proofs.LawLemmas.Order.{active-there, at-most-one, inactive-there}
 use Rattle.cmwq_table.proofs.LawLemmas.PoolOrder.{Follows-waits, HasActiveAt, HasInactiveAt, IsInPoolOrder, PendsActiveAt, RanAt, WaitsSince, active-below, waits-then}
 use Rattle.cmwq_table.proofs.LawLemmas.Runs.{IsReached, Outcome, outcome-is, run-reached, table-reached}

@@ -26,7 +26,8 @@ use Rattle.cmwq_table.proofs.LawLemmas.Alike.{IsAlike, alike-depth, alike-limits
 use Rattle.cmwq_table.proofs.LawLemmas.Changes.{Follows, Follows-then}
 use Rattle.cmwq_table.proofs.LawLemmas.Disabled.{Follows-all_off, Follows-depth, Follows-off_but, IsOff, disabled-deep, enabled-zero}
 use Rattle.cmwq_table.proofs.LawLemmas.Limits.{alike-full, freeze-full, limited, limited-ordered, limited-sound, set_max-full, thaw-full, thawed, thawed-sound}
-use Rattle.cmwq_table.proofs.LawLemmas.Moving.{moved-follows, next_move-fits}
+use Rattle.cmwq_table.proofs.Choosing.{next_move-fits}
+use Rattle.cmwq_table.proofs.LawLemmas.Moving.{moved-follows}
 use Rattle.cmwq_table.proofs.LawLemmas.Room.{AreFull, Follows-full}
 use Rattle.cmwq_table.proofs.LawLemmas.Setting.{IsSetting}
 use Rattle.cmwq_table.proofs.LawLemmas.Sound.{FitsIfPending, FitsIfRunning, FitsTarget, Follows-sound, IsSound}

@@ -1,9 +1,8 @@
 -- Each move of a pool makes a chain of changes.
-use Rattle.std.proofs.Common.{◌≡◌, ℕ, ◌+◌, ◌<◌, ◌≤◌, Bool, true, false, not, cond, ◌&&◌, ◌||◌, List, length, Option, Some, None, arith, refl, sym, ap, ◌∙◌, subst}
+use Rattle.std.proofs.Common.{◌≡◌, ℕ, ◌+◌, ◌<◌, ◌≤◌, Bool, true, false, not, cond, ◌&&◌, List, length, Option, Some, None, arith, refl, sym, ap, ◌∙◌, subst}
 use Rattle.std.proofs.lemmas.Bool.{and_parts, eqb-true, ltb-true}
-use Rattle.std.specs.Prelude.{slice_index_or, slice_set, is_none, is_some, nat_lt, ◌==◌}
+use Rattle.std.specs.Prelude.{slice_index_or, slice_set, is_some, nat_lt, ◌==◌}
 use Rattle.cmwq_types.specs.Contents.{ScenarioContents}
-use Rattle.cmwq_types.specs.First.{MatchFirst}
 use Rattle.cmwq_types.specs.Scenario.{local_cpu, op_at, queue_of}
 use Rattle.cmwq_types.specs.declared.instr.WorkId.{WorkId}
 use Rattle.cmwq_types.specs.declared.limits.TheConstants.{MAX_WORKERS, RESCUER}
@@ -14,14 +13,16 @@ use Rattle.cmwq_types.specs.declared.reply.Place.{Place}
 use Rattle.cmwq_types.specs.declared.reply.Place.TheVariants.{Timer, Inactive, Listed, Deferred}
 use Rattle.cmwq_types.specs.declared.scenario.Op.{Op}
 use Rattle.cmwq_types.specs.declared.scenario.Op.TheVariants as op
-use Rattle.cmwq_types.proofs.FirstLemmas.{by_least-order, by_least_two-order, by_greatest-order, first_below-is_first}
+use Rattle.cmwq_types.proofs.FirstLemmas.{by_greatest-order, first_below-is_first}
 use Rattle.cmwq_table.specs.declared.state.Pending.{Pending}
 use Rattle.cmwq_table.specs.declared.state.Running.{Running}
-use Rattle.cmwq_table.specs.State.{State, seat, pending_at, running_at, depth_at, is_disabled, idle_at, made_at, is_unbound}
-use Rattle.cmwq_table.specs.Counts.{can_be_rescued, first_listed, first_ready, first_rescued, first_runnable, first_slept, free_worker, has_free_rescuer, idle_stamp, if_ready, is_deferred, is_listed, is_rescuer, is_runnable, is_slept, last_idle, may_start, new_worker, or_else, pends, pending_before, pending_stamp, ready_head, running_before, running_stamp, running_until, runs}
+use Rattle.cmwq_table.specs.State.{State, seat, pending_at, running_at, depth_at, is_disabled, idle_at, made_at}
+use Rattle.cmwq_table.specs.Counts.{free_worker, has_free_rescuer, idle_stamp, is_deferred, is_listed, is_rescuer, is_runnable, last_idle, may_start, new_worker, or_else, pends, runs}
+use Rattle.cmwq_table.specs.Changes.{MoveFits}
 use Rattle.cmwq_table.specs.Laws.{is_wake}
-use Rattle.cmwq_table.specs.Moves.{advance, as_move, become_idle, begin_again, begin_on, begun, carry_out, come_to_end, deferred, delay_from_body, finish, mod_from_body, moved, next_move, onward, place_after, queue_from_body, rescued, retire, start_first, start_move, start_or_rescue, started, started_on, take_listed, taken_off, with_running, woken}
+use Rattle.cmwq_table.specs.Moves.{advance, become_idle, begin_again, begin_on, begun, carry_out, come_to_end, deferred, delay_from_body, finish, mod_from_body, moved, onward, place_after, queue_from_body, rescued, retire, started, started_on, taken_off, with_running, woken}
 use Rattle.cmwq_types.proofs.SettingLemmas.{local_cpu-in_range}
+use Rattle.cmwq_table.proofs.Choosing.{IfThere, found-first, ready-runnable}
 use Rattle.cmwq_table.proofs.CounterLemmas.{set-within}
 use Rattle.cmwq_table.proofs.LawLemmas.Setting.{IsOpInRange, IsSetting}
 use Rattle.cmwq_table.proofs.LawLemmas.Changes.{Kind, Change, Follows, Follows-then}
@@ -29,147 +30,6 @@ use Rattle.cmwq_table.proofs.LawLemmas.Disabled.{Follows-depth, enabled-zero}
 use Rattle.cmwq_table.proofs.LawLemmas.Makers.{alters-pending, alters-running, alters-both}
 use Rattle.cmwq_table.proofs.LawLemmas.Sound.{IsSound, Change-sound, Follows-sound}
 use Rattle.cmwq_table.proofs.LawLemmas.Steps.{Stops, changed, leaving, one, place-follows, place_after-follows, stops-taken_off, take_off-follows}
-
--- what the choice of a move says of it
-abbrev pub MoveFits : ScenarioContents → State → ℕ → Move → Type 0
-MoveFits S s pool (Advance w) = (w.0 < length S.works) × (runs (λ r. is_runnable r.mode) (running_at s w.0) ≡ true)
-MoveFits S s pool (Wake w) = w.0 < length S.works
-MoveFits S s pool (Start w) = (w.0 < length S.works) × (running_at s w.0 ≡ None) × (may_start S s pool ≡ true) × (pends (λ place. is_listed place pool) (pending_at s w.0) ≡ true)
-MoveFits S s pool (Defer w) = (w.0 < length S.works) × (is_some (running_at s w.0) ≡ true) × (pends (λ place. is_listed place pool) (pending_at s w.0) ≡ true)
-MoveFits S s pool (Rescue w) =
-    (w.0 < length S.works) × (running_at s w.0 ≡ None) × (may_start S s pool ≡ true) × (pends (λ place. is_listed place pool) (pending_at s w.0) ≡ true)
-    × (has_free_rescuer S s (queue_of S w.0) ≡ true)
-
--- Choosing.
-
-runs-weaker : (f g : Running → Bool) (o : Option Running) → ((r : Running) → f r ≡ true → g r ≡ true) → runs f o ≡ true → runs g o ≡ true
-runs-weaker f g (Some r) weaker e = weaker r e
-runs-weaker f g None weaker e = e
-
--- a work that is there, and that runs and is runnable
-abbrev pub IsReady : ScenarioContents → State → ℕ → Type 0
-IsReady S s w = (w < length S.works) × (runs (λ r. is_runnable r.mode) (running_at s w) ≡ true)
-
-abbrev IfSome : (ℕ → Type 0) → Option ℕ → Type 0
-IfSome P (Some w) = P w
-IfSome P None = Unit {0}
-
-found-first : (before : ℕ → ℕ → Bool) (test : ℕ → Bool) (n : ℕ) (P : ℕ → Type 0) → ((w : ℕ) → w < n → test w ≡ true → P w) → (o : Option ℕ)
-    → MatchFirst before test n o → IfSome P o
-found-first before test n P each (Some w) first = each w first.in_range first.passes
-found-first before test n P each None none = tt
-
-ready-first : (S : ScenarioContents) (s : State) (pool : ℕ) → IfSome (IsReady S s) (first_ready S s pool)
-ready-first S s pool =
-    let test = λ (r : Running). (r.pool == pool) && is_runnable r.mode && (r.left == 0) in
-    found-first (running_before s) (λ w. runs test (running_at s w)) (length S.works) (IsReady S s)
-    (λ w h e. (h, runs-weaker test (λ r. is_runnable r.mode) (running_at s w) (λ r passes. (and_parts (r.pool == pool) (is_runnable r.mode) (and_parts ((r.pool == pool) && is_runnable r.mode) (r.left == 0) passes).0).1) e))
-    (first_ready S s pool)
-    (first_below-is_first (running_before s) (λ w. runs test (running_at s w)) (length S.works) (by_least-order (λ w. running_stamp (running_at s w))))
-
-runnable-first : (S : ScenarioContents) (s : State) (pool : ℕ) → IfSome (IsReady S s) (first_runnable S s pool)
-runnable-first S s pool =
-    let test = λ (r : Running). (r.pool == pool) && is_runnable r.mode in
-    found-first (running_before s) (λ w. runs test (running_at s w)) (length S.works) (IsReady S s)
-    (λ w h e. (h, runs-weaker test (λ r. is_runnable r.mode) (running_at s w) (λ r passes. (and_parts (r.pool == pool) (is_runnable r.mode) passes).1) e))
-    (first_runnable S s pool)
-    (first_below-is_first (running_before s) (λ w. runs test (running_at s w)) (length S.works) (by_least-order (λ w. running_stamp (running_at s w))))
-
-if-cond : (P : ℕ → Type 0) (b : Bool) (x y : Option ℕ) → IfSome P x → IfSome P y → IfSome P (cond b x y)
-if-cond P true x y here there = here
-if-cond P false x y here there = there
-
-if-ready : (S : ScenarioContents) (s : State) (o : Option ℕ) → IfSome (IsReady S s) o → IfSome (IsReady S s) (if_ready s o)
-if-ready S s (Some w) ready = if-cond (IsReady S s) (runs (λ r. r.left == 0) (running_at s w)) (Some w) None ready tt
-if-ready S s None ready = tt
-
-head-ready : (S : ScenarioContents) (s : State) (pool : ℕ) → IfSome (IsReady S s) (ready_head S s pool)
-head-ready S s pool =
-    if-cond (IsReady S s) (is_unbound S pool) (first_ready S s pool) (if_ready s (first_runnable S s pool)) (ready-first S s pool)
-    (if-ready S s (first_runnable S s pool) (runnable-first S s pool))
-
-slept-first : (S : ScenarioContents) (s : State) (pool : ℕ) → IfSome (λ w. w < length S.works) (first_slept S s pool)
-slept-first S s pool =
-    let test = λ (w : ℕ). runs (λ r. (r.pool == pool) && is_slept r.mode s.time) (running_at s w) in
-    found-first (λ v w. nat_lt (running_until (running_at s v)) (running_until (running_at s w)) || ((running_until (running_at s v) == running_until (running_at s w)) && nat_lt (running_stamp (running_at s v)) (running_stamp (running_at s w)))) test (length S.works) (λ w. w < length S.works)
-    (λ w h e. h)
-    (first_slept S s pool)
-    (first_below-is_first (λ v w. nat_lt (running_until (running_at s v)) (running_until (running_at s w)) || ((running_until (running_at s v) == running_until (running_at s w)) && nat_lt (running_stamp (running_at s v)) (running_stamp (running_at s w)))) test (length S.works) (by_least_two-order (λ w. running_until (running_at s w)) (λ w. running_stamp (running_at s w))))
-
--- a work that is there, and listed in the pool
-abbrev pub IsToStart : ScenarioContents → State → ℕ → ℕ → Type 0
-IsToStart S s pool w = (w < length S.works) × (pends (λ place. is_listed place pool) (pending_at s w) ≡ true)
-
-pub listed-is_first : (S : ScenarioContents) (s : State) (pool : ℕ)
-    → MatchFirst (pending_before s) (λ w. pends (λ place. is_listed place pool) (pending_at s w)) (length S.works) (first_listed S s pool)
-listed-is_first S s pool = first_below-is_first (pending_before s) (λ w. pends (λ place. is_listed place pool) (pending_at s w)) (length S.works) (by_least-order (λ w. pending_stamp (pending_at s w)))
-
-listed-first : (S : ScenarioContents) (s : State) (pool : ℕ) → IfSome (IsToStart S s pool) (first_listed S s pool)
-listed-first S s pool =
-    found-first (pending_before s) (λ w. pends (λ place. is_listed place pool) (pending_at s w)) (length S.works) (IsToStart S s pool) (λ w h e. (h, e)) (first_listed S s pool) (listed-is_first S s pool)
-
-abbrev IfMove : (Move → Type 0) → Option Move → Type 0
-IfMove P (Some move) = P move
-IfMove P None = Unit {0}
-
-taken-fits : (S : ScenarioContents) (s : State) (pool w : ℕ) → IsToStart S s pool w → may_start S s pool ≡ true → (r : Option Running)
-    → running_at s w ≡ r → (worker : Option ℕ) → IfMove (MoveFits S s pool) (take_listed w r worker)
-taken-fits S s pool w listed may (Some r) e worker = (listed.0, ap is_some e, listed.1)
-taken-fits S s pool w listed may None e (Some worker) = (listed.0, e, may, listed.1)
-taken-fits S s pool w listed may None e None = tt
-
-first-fits : (S : ScenarioContents) (s : State) (pool : ℕ) → may_start S s pool ≡ true → (o : Option ℕ) → IfSome (IsToStart S s pool) o
-    → (worker : Option ℕ) → IfMove (MoveFits S s pool) (start_first s o worker)
-first-fits S s pool may (Some w) listed worker = taken-fits S s pool w listed may (running_at s w) refl worker
-first-fits S s pool may None listed worker = tt
-
--- a work that is there, and that a rescuer can take
-abbrev IsToRescue : ScenarioContents → State → ℕ → ℕ → Type 0
-IsToRescue S s pool w = (w < length S.works) × (can_be_rescued S s pool w ≡ true)
-
-pub rescued-is_first : (S : ScenarioContents) (s : State) (pool : ℕ)
-    → MatchFirst (pending_before s) (can_be_rescued S s pool) (length S.works) (first_rescued S s pool)
-rescued-is_first S s pool = first_below-is_first (pending_before s) (can_be_rescued S s pool) (length S.works) (by_least-order (λ w. pending_stamp (pending_at s w)))
-
-rescued-first : (S : ScenarioContents) (s : State) (pool : ℕ) → IfSome (IsToRescue S s pool) (first_rescued S s pool)
-rescued-first S s pool =
-    found-first (pending_before s) (can_be_rescued S s pool) (length S.works) (IsToRescue S s pool) (λ w h e. (h, e)) (first_rescued S s pool) (rescued-is_first S s pool)
-
-none-runs : (o : Option Running) → is_none o ≡ true → o ≡ None
-none-runs (Some r) e = cc
-none-runs None e = refl
-
-rescue-fits : (S : ScenarioContents) (s : State) (pool : ℕ) → may_start S s pool ≡ true → (o : Option ℕ) → IfSome (IsToRescue S s pool) o
-    → IfMove (MoveFits S s pool) (as_move Rescue o)
-rescue-fits S s pool may (Some w) ready =
-    let listed = and_parts (pends (λ place. is_listed place pool) (pending_at s w)) (is_none (running_at s w) && has_free_rescuer S s (queue_of S w)) ready.1 in
-    let still = and_parts (is_none (running_at s w)) (has_free_rescuer S s (queue_of S w)) listed.1 in
-    (ready.0, none-runs (running_at s w) still.0, may, listed.0, still.1)
-rescue-fits S s pool may None ready = tt
-
-either-fits : (P : Move → Type 0) (a b : Option Move) → IfMove P a → IfMove P b → IfMove P (or_else a b)
-either-fits P (Some move) b here there = here
-either-fits P None b here there = there
-
-start-fits-if : (S : ScenarioContents) (s : State) (pool : ℕ) → (b : Bool) → may_start S s pool ≡ b
-    → IfMove (MoveFits S s pool) (cond b (start_or_rescue S s pool) None)
-start-fits-if S s pool true may =
-    either-fits (MoveFits S s pool) (start_first s (first_listed S s pool) (free_worker S s pool)) (as_move Rescue (first_rescued S s pool))
-    (first-fits S s pool may (first_listed S s pool) (listed-first S s pool) (free_worker S s pool))
-    (rescue-fits S s pool may (first_rescued S s pool) (rescued-first S s pool))
-start-fits-if S s pool false may = tt
-
-chosen-fits : (S : ScenarioContents) (s : State) (pool : ℕ) → (head slept : Option ℕ) (start : Option Move) → IfSome (IsReady S s) head
-    → IfSome (λ w. w < length S.works) slept → IfMove (MoveFits S s pool) start
-    → IfMove (MoveFits S s pool) (or_else (as_move Advance head) (or_else (as_move Wake slept) start))
-chosen-fits S s pool (Some w) slept start ready sleeper starts = ready
-chosen-fits S s pool None (Some w) start ready sleeper starts = sleeper
-chosen-fits S s pool None None start ready sleeper starts = starts
-
-pub next_move-fits : (S : ScenarioContents) (s : State) (pool : ℕ) (move : Move) → next_move S s pool ≡ Some move → MoveFits S s pool move
-next_move-fits S s pool move e =
-    subst (λ (o : Option Move). IfMove (MoveFits S s pool) o) e
-    (chosen-fits S s pool (ready_head S s pool) (first_slept S s pool) (start_move S s pool) (head-ready S s pool) (slept-first S s pool) (start-fits-if S s pool (may_start S s pool) refl))
 
 -- Carrying out.
 
@@ -295,23 +155,23 @@ wakes-follows S s w None sound h is = Follows.stays true true s
 
 -- where the free worker is one of the pool's, the pool doesn't make too many
 
-idle-first : (S : ScenarioContents) (s : State) (pool : ℕ) → IfSome (λ worker. worker < S.workers) (last_idle S s pool)
+idle-first : (S : ScenarioContents) (s : State) (pool : ℕ) → IfThere (λ worker. worker < S.workers) (last_idle S s pool)
 idle-first S s pool =
     found-first (λ v w. nat_lt (idle_stamp (idle_at s pool w)) (idle_stamp (idle_at s pool v))) (λ worker. is_some (idle_at s pool worker)) S.workers (λ worker. worker < S.workers)
     (λ w h e. h)
     (last_idle S s pool)
     (first_below-is_first (λ v w. nat_lt (idle_stamp (idle_at s pool w)) (idle_stamp (idle_at s pool v))) (λ worker. is_some (idle_at s pool worker)) S.workers (by_greatest-order (λ worker. idle_stamp (idle_at s pool worker))))
 
-new-below : (S : ScenarioContents) (made : ℕ) (b : Bool) → (b ≡ true → made < S.workers) → IfSome (λ worker. worker < S.workers) (cond b (Some made) None)
+new-below : (S : ScenarioContents) (made : ℕ) (b : Bool) → (b ≡ true → made < S.workers) → IfThere (λ worker. worker < S.workers) (cond b (Some made) None)
 new-below S made true below = below refl
 new-below S made false below = tt
 
-or-below : (S : ScenarioContents) (x y : Option ℕ) → IfSome (λ worker. worker < S.workers) x → IfSome (λ worker. worker < S.workers) y
-    → IfSome (λ worker. worker < S.workers) (or_else x y)
+or-below : (S : ScenarioContents) (x y : Option ℕ) → IfThere (λ worker. worker < S.workers) x → IfThere (λ worker. worker < S.workers) y
+    → IfThere (λ worker. worker < S.workers) (or_else x y)
 or-below S (Some x) y here there = here
 or-below S None y here there = there
 
-free-below : (S : ScenarioContents) (s : State) (pool : ℕ) → IfSome (λ worker. worker < S.workers) (free_worker S s pool)
+free-below : (S : ScenarioContents) (s : State) (pool : ℕ) → IfThere (λ worker. worker < S.workers) (free_worker S s pool)
 free-below S s pool =
     or-below S (last_idle S s pool) (new_worker S s pool) (idle-first S s pool)
     (new-below S (made_at s pool) (not s.pressed && nat_lt (made_at s pool) S.workers)
@@ -342,7 +202,7 @@ start-place S wakes s pool w worker p (Inactive at) few sound h seated idle may 
 start-place S wakes s pool w worker p (Deferred at) few sound h seated idle may is is_pending = cc
 
 starts : (S : ScenarioContents) (wakes : Bool) (s : State) (pool w : ℕ) (worker : Option ℕ) (o : Option Pending) → S.workers ≤ MAX_WORKERS → IsSound S s → w < length S.works
-    → IfSome (λ seated. seated < S.workers) worker → running_at s w ≡ None → may_start S s pool ≡ true
+    → IfThere (λ seated. seated < S.workers) worker → running_at s w ≡ None → may_start S s pool ≡ true
     → pends (λ place. is_listed place pool) o ≡ true → pending_at s w ≡ o → Follows S true wakes s (started s pool w worker o)
 starts S wakes s pool w (Some worker) (Some p) few sound h seated idle may is is_pending = start-place S wakes s pool w worker p p.place few sound h seated idle may is is_pending
 starts S wakes s pool w (Some worker) None few sound h seated idle may is is_pending = Follows.stays true wakes s
@@ -396,8 +256,8 @@ defers S wakes s pool w None o sound h runs there is is_pending = cc
 -- every move is a chain of changes, among which none wakes unless it tells so
 pub moved-follows : (S : ScenarioContents) (s : State) (pool : ℕ) (move : Move) → IsSetting S → IsSound S s → MoveFits S s pool move
     → Follows S true (is_wake (moved S s pool move).1) s (moved S s pool move).0
-moved-follows S s pool (Advance w) setting sound fits = advances S (is_wake (advance S s w.0 (running_at s w.0)).1) s w.0 (running_at s w.0) setting sound fits.0 refl fits.1
-moved-follows S s pool (Wake w) setting sound fits = wakes-follows S s w.0 (running_at s w.0) sound fits refl
-moved-follows S s pool (Start w) setting sound fits = starts S false s pool w.0 (free_worker S s pool) (pending_at s w.0) setting.workers sound fits.0 (free-below S s pool) fits.1 fits.2 fits.3 refl
-moved-follows S s pool (Defer w) setting sound fits = defers S false s pool w.0 (running_at s w.0) (pending_at s w.0) sound fits.0 refl fits.1 fits.2 refl
-moved-follows S s pool (Rescue w) setting sound fits = rescues S false s pool w.0 (pending_at s w.0) sound fits.0 fits.1 fits.2 fits.4 fits.3 refl
+moved-follows S s pool (Advance w) setting sound fits = advances S (is_wake (advance S s w.0 (running_at s w.0)).1) s w.0 (running_at s w.0) setting sound fits.there refl (ready-runnable pool (running_at s w.0) fits.ready)
+moved-follows S s pool (Wake w) setting sound fits = wakes-follows S s w.0 (running_at s w.0) sound fits.there refl
+moved-follows S s pool (Start w) setting sound fits = starts S false s pool w.0 (free_worker S s pool) (pending_at s w.0) setting.workers sound fits.0.taken.there (free-below S s pool) fits.0.still fits.0.taken.may fits.0.taken.listed refl
+moved-follows S s pool (Defer w) setting sound fits = defers S false s pool w.0 (running_at s w.0) (pending_at s w.0) sound fits.0.there refl fits.1 fits.0.listed refl
+moved-follows S s pool (Rescue w) setting sound fits = rescues S false s pool w.0 (pending_at s w.0) sound fits.0.taken.there fits.0.still fits.0.taken.may fits.1 fits.0.taken.listed refl

@@ -27,7 +27,8 @@ use Rattle.cmwq_table.specs.Counts.{burns, first_due, first_inactive, free_worke
 use Rattle.cmwq_table.specs.Laws.{AtEveryInstruction, IsListedIn, StartsAtLevelZero}
 use Rattle.cmwq_table.specs.Moves.{advance, become_idle, begin_again, begun, burned, carry_out, come_to_end, deferred, enlist, fill, fill_everywhere, fill_freezable, fill_from, fill_pools, fill_times, fired, fired_to, first_moving, moved, next_move, one_less, onward, place_after, queue_from_body, delay_from_body, mod_from_body, rescued, retire, started, taken_off, tick, with_depth, with_pending, with_running, woken}
 use Rattle.cmwq_table.specs.Table.{answer, cancelled, delayed, effect, fired_first, is_met, modified, next, next_unless, queued, refusal, run, step_or_tick, stepped, table}
-use Rattle.cmwq_table.proofs.LawLemmas.Moving.{MoveFits, next_move-fits}
+use Rattle.cmwq_table.specs.Changes.{MoveFits}
+use Rattle.cmwq_table.proofs.Choosing.{next_move-fits}
 
 -- no work begins to run
 abbrev NoneBegin : State → State → Type 0
@@ -244,10 +245,10 @@ rescued-listed S s pool w None may is listed v r idle runs = absurd (cc (idle, r
 moved-listed : (S : ScenarioContents) (s : State) (pool : ℕ) (move : Move) → MoveFits S s pool move → BeginsListed S s (moved S s pool move).0
 moved-listed S s pool (Advance w) fits = none-listed S s (moved S s pool (Advance w)).0 (advance-none S s w.0 (running_at s w.0) refl)
 moved-listed S s pool (Wake w) fits = none-listed S s (moved S s pool (Wake w)).0 (woken-none s w.0 (running_at s w.0) refl)
-moved-listed S s pool (Start w) fits = started-listed S s pool w.0 (free_worker S s pool) (pending_at s w.0) fits.2 refl fits.3
+moved-listed S s pool (Start w) fits = started-listed S s pool w.0 (free_worker S s pool) (pending_at s w.0) fits.0.taken.may refl fits.0.taken.listed
 moved-listed S s pool (Defer w) fits =
     none-listed S s (moved S s pool (Defer w)).0 (same-none s (moved S s pool (Defer w)).0 (deferred-same s pool w.0 (pending_at s w.0)))
-moved-listed S s pool (Rescue w) fits = rescued-listed S s pool w.0 (pending_at s w.0) fits.2 refl fits.3
+moved-listed S s pool (Rescue w) fits = rescued-listed S s pool w.0 (pending_at s w.0) fits.0.taken.may refl fits.0.taken.listed
 
 -- The instructions.
 
