@@ -5,7 +5,8 @@
 
 In docs/MAP.md the crates by storeys, from crates.txt and the first paragraph of each crate's root file; in docs/MODEL.md the definitions
 that some public contracts cite, as far as these go, with their files and lines; in docs/PROVED.md what is proved of each crate, from the
-lines `//! Proved: ..` and `//! Not proved: ..` of its root file, or from its entry in docs/PROVED.txt. Each is between two comments."""
+lines `//! Proved: ..` and `//! Not proved: ..` of its root file, or from its entry in docs/PROVED.txt. Each is between two comments. And it follows
+the links of the documents."""
 import glob
 import os
 import pathlib
@@ -197,13 +198,36 @@ def lost_steps(root):
     return [f"docs/MAP.md: {path} has no `{name}`" for path, text, names in sources for name in names if not re.search(rf"\bfn {name}\b", text)]
 
 
+def anchors(text):
+    """Returns the anchors of a page's headings, as viewers of Markdown make them."""
+    plain = re.sub(r"^```.*?^```$", "", text, flags=re.S | re.M)
+    found, seen = set(), {}
+    for heading in re.findall(r"^#+ (.*)$", plain, re.M):
+        name = re.sub(r"[^\w -]", "", heading.lower()).replace(" ", "-")
+        found.add(f"{name}-{seen[name]}" if name in seen else name)
+        seen[name] = seen.get(name, 0) + 1
+    return found
+
+
+def lost_links(root):
+    """The links of the documents that lead to no file or to no heading."""
+    faults, pages = [], {path: pathlib.Path(path).read_text("utf-8") for path in glob.glob(f"{root}/*.md") + glob.glob(f"{root}/docs/**/*.md", recursive=True) + glob.glob(f"{root}/scenarios/**/*.md", recursive=True)}
+    for page, text in sorted(pages.items()):
+        for link in re.findall(r"\]\((?!https?:)([^)\s]+)\)", re.sub(r"^```.*?^```$|`[^`\n]*`", "", text, flags=re.S | re.M)):
+            file, _, anchor = link.partition("#")
+            path = os.path.normpath(f"{os.path.dirname(page)}/{file}") if file else page
+            if not os.path.exists(path) or anchor and anchor not in anchors(pages.get(path, "")):
+                faults.append(f"{os.path.relpath(page, root)}: the link {link} leads nowhere")
+    return faults
+
+
 def computed(root):
     """Each document's path, the word that its comments have, and what should stand between them."""
     return [("docs/MAP.md", "crates", map_rows(root)), ("docs/MODEL.md", "road", road_rows(root)), ("docs/PROVED.md", "proved", proved_rows(root))]
 
 
 def main(*words):
-    faults = lost_steps(TOP) + claim_faults(TOP)
+    faults = lost_steps(TOP) + lost_links(TOP) + claim_faults(TOP)
     for path, word, rows in computed(TOP):
         text = pathlib.Path(TOP, path).read_text("utf-8")
         made = re.sub(rf"(<!-- {word}: .*-->\n)(?:.*\n)*?(<!-- end -->)", lambda it: it[1] + "\n".join(["", *rows, "", ""]) + it[2], text)
