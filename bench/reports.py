@@ -42,7 +42,7 @@ def seconds(program, form, path):
 def main(program):
     rows = {}
     with tempfile.TemporaryDirectory(prefix="reports-") as room:
-        for path in sorted(glob.glob(f"{TOP}/scenarios/*.cmwq")):
+        for path in sorted(glob.glob(f"{TOP}/scenarios/**/*.cmwq", recursive=True)):
             with open(path, encoding="utf-8") as it:
                 text = it.read()
             if text.count("\nactor ") == 1:

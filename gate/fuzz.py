@@ -319,11 +319,11 @@ Found = collections.namedtuple("Found", "lessons images sessions uses files")
 def found_in(program, room):
     """What is mutated: the lessons and what the table of hostile.py has."""
     hostile.fill(program, room)
-    lessons = sorted(glob.glob(f"{hostile.TOP}/scenarios/*.cmwq")) + [f"{room}/{name}" for name in ("every.cmwq", "asks.cmwq", "restless.cmwq")]
+    lessons = sorted(glob.glob(f"{hostile.TOP}/scenarios/**/*.cmwq", recursive=True), key=os.path.basename) + [f"{room}/{name}" for name in ("every.cmwq", "asks.cmwq", "restless.cmwq")]
     for number, lesson in enumerate(lessons):
         hostile.make_image(program, lesson, f"image{number}", room)
     images = [content for number in range(len(lessons)) if os.path.exists(path := f"{room}/image{number}") and (content := hostile.bytes_of(path))]
-    sessions = [hostile.bytes_of(path).decode() for path in sorted(glob.glob(f"{hostile.TOP}/scenarios/*.debug"))]
+    sessions = [hostile.bytes_of(path).decode() for path in sorted(glob.glob(f"{hostile.TOP}/scenarios/**/*.debug", recursive=True), key=os.path.basename)]
     sessions += [given for _, given in hostile.USES if given]
     files = {name: hostile.bytes_of(f"{room}/{name}") for name in hostile.FILES}
     return Found([hostile.bytes_of(lesson).decode() for lesson in lessons], images or [b"CMWQ"], sessions, hostile.all_uses(), files)

@@ -311,7 +311,7 @@ def bytes_of(path):
 
 def debugger_commands():
     """The first words of the debugger's commands."""
-    return set(re.findall(r"^\| `(\w+)", section("## Debugger commands"), re.M))
+    return set(re.findall(r"^\| `(\w+)", section("## debug"), re.M))
 
 
 def operations_in(text):
@@ -452,13 +452,13 @@ class Documented:
         images = re.sub(r"\(.*?\)", "", section("## Image", "### Faults").partition("\nEach line of")[0])
         self.image_reasons = set(re.findall(r"`([A-Z][a-z]\w*(?: N)?)`", images))
         self.refusals = {name for row in re.findall(r"^\| (`\w+`.*?) \|", section("## Output", "### Refusals"), re.M) for name in re.findall(r"`(\w+)`", row)}
-        commands_table = re.findall(r"^\| `[^|]* \|[^|]*\|([^|]*)\|", section("## Debugger commands"), re.M)
+        commands_table = re.findall(r"^\| `[^|]* \|[^|]*\|([^|]*)\|", section("## debug"), re.M)
         self.debugger_refusals = {name for cell in commands_table for name in re.findall(r"`(\w+)`", cell)}
         rows = re.findall(r"^\| `([^`|]+)` \| (\d) \|", section("## Output", "### Faults"), re.M)
         self.lines = [(re.compile(self.pattern(line)), int(status)) for line, status in rows]
         # Those of `explore`, which says nothing on standard error then.
-        self.silent = {0, *map(int, re.findall(r"^\| [^|]+ \| (\d) \|", section("## Every order of several actors"), re.M))}
-        notes = re.findall(r"^\| `FILE:LINE: note: (?:[A-Z]+|steps): ([^`]+[,;]) \.\.` \|", section("## Verdicts"), re.M)
+        self.silent = {0, *map(int, re.findall(r"^\| [^|]+ \| (\d) \|", section("## explore"), re.M))}
+        notes = re.findall(r"^\| `FILE:LINE: note: (?:[A-Z]+|steps): ([^`]+[,;]) \.\.` \|", section("## check"), re.M)
         self.note = re.compile(rf".*:\d+: note: [a-z0-9_]+: (?:{'|'.join(map(re.escape, notes))}) [^:]+(?:: [^:]+)?")
         assert len(notes) == 5 and len(self.reasons) >= 12 and len(self.image_reasons) >= 10 and len(self.refusals) >= 15 and len(self.debugger_refusals) >= 7 and len(rows) >= 16 and self.silent == {0, 5, 6}
 

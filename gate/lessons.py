@@ -1,16 +1,17 @@
-"""Runs each scenario of scenarios/, and each worked example of gate/examples/, which stands there as it is listed, through a built program:
-what it prints is NAME.out; its listing prints the same; its image is shown as the listing. What is told of its run is NAME.tell, where there is one, and without the marked lines what it prints. Its picture, if
-a tick passes, stands in scenarios/README.md below its name, and is NAME.draw, where there is one. What a debugger says to NAME.debug is NAME.said. What a play of a
-scenario with several actors leaves is one of NAME.play1, NAME.play2 .., and run again it prints the lines that stand in it. Why work W
+"""Runs each scenario of scenarios/ and scenarios/reference/, and each worked example of gate/examples/, which is there as it is listed, through a
+built program: what it prints is NAME.out; its listing prints the same; its image is shown as the listing. What is told of its run is NAME.tell, where there is one, and
+without the marked lines what it prints. Its picture, if a tick passes, is on its page, NAME.md, and is NAME.draw, where there is one. What a debugger says to NAME.debug
+is NAME.said. What a play of a scenario with several actors leaves is one of NAME.play1, NAME.play2 .., and run again it prints the lines that stand in it. Why work W
 waits is NAME.why_W, and what flush F waits for NAME.flush_F, where there are such; with _every behind it, the same at every position.
-scenarios/README.md asks of each lesson why something waits: a line **QUESTION?**, a line `./cmwq why ..`, and behind it, folded away, what that
+Each page asks why something waits: a line **QUESTION?**, a line `./cmwq why ..`, and behind it, folded away, what that
 prints. What is asked of all orders of several actors, `./cmwq explore ..`, has its answer in NAME.explore_.., and folded away that name, the status and the
-answer from its first comment on; an order that was found has the steps and the lines of its run in its comments. The
-commands of both pages stand behind `$`, each with what it prints, and README.md's picture is docs/max_active_3.svg. The program's
+answer from its first comment on; an order that was found has the steps and the lines of its run in its comments. scenarios/README.md has a line for each page. In README.md,
+the pages of scenarios and those of docs/tutorial/ each command follows a `$`, and what it prints follows the command; README.md's picture is docs/max_active_3.svg. The program's
 own stored run is one of these. Then faulty input: the status, and what each stream is given. And each scenario of one actor through an engine, by the program CALLS, where it is named: it
 prints the history, of which each entry is compared.
 
-    python3 gate/lessons.py PROGRAM [CALLS]"""
+    python3 gate/lessons.py PROGRAM [CALLS]
+    python3 gate/lessons.py --pages PROGRAM      the commands of README.md and the tutorial alone"""
 import glob
 import itertools
 import os
@@ -20,6 +21,17 @@ import sys
 import tempfile
 
 TOP = os.path.dirname(os.path.dirname(os.path.realpath(__file__)))
+
+
+def of_scenarios(pattern):
+    """The files of this name, beside the lessons and beside the tests of corners."""
+    found = glob.glob(f"{TOP}/scenarios/{pattern}") + glob.glob(f"{TOP}/scenarios/reference/{pattern}")
+    return sorted(found, key=lambda path: (os.path.basename(path), path))
+
+
+def pages():
+    """The scenarios' pages, each with its text."""
+    return {os.path.relpath(path, TOP): bytes_of(path).decode() for path in of_scenarios("*.md") if os.path.basename(path) != "README.md"}
 
 
 def said(*words):
@@ -82,12 +94,16 @@ def drawing_faults(program, drawing):
 
 
 def shown_faults(program, texts):
-    """Which lessons' pictures aren't those that scenarios/README.md shows below their names: of each in whose run a tick passes."""
-    shown = dict(re.findall(r"^### `(\w+)`\n(?:(?!#|```|\*\*).*\n)*```text\n((?:(?!```).*\n)*)```$", bytes_of(f"{TOP}/scenarios/README.md").decode(), re.M))
-    lessons = {os.path.basename(text).removesuffix(".cmwq"): said(program, "draw", text) for text in texts}
-    drawn = {name: picture and ("" if b"\nactor||\n" in picture else picture.decode()) for name, picture in lessons.items()}
-    faults = [name for name in sorted(drawn.keys() | shown.keys()) if shown.get(name, "") != drawn.get(name, "")]
-    return [f"scenarios/README.md: the picture of {name} is not as it should be" for name in faults]
+    """Which pages don't show their scenario's picture: of each in whose run a tick passes. Each page has a line of scenarios/README.md."""
+    faults, shown = [], pages()
+    for text in texts:
+        page, picture = f"{os.path.relpath(text, TOP).removesuffix('.cmwq')}.md", said(program, "draw", text)
+        found = re.match(r"# `\w+`\n(?:(?!```|\*\*).*\n)*```text\n((?:(?!```).*\n)*)```$", shown.get(page, ""), re.M)
+        drawn = picture and ("" if b"\nactor||\n" in picture else picture.decode())
+        faults += [] if (found[1] if found else "") == drawn and page in shown else [f"{page}: its picture is not as it should be"]
+    index = re.findall(r"^- \[`(\w+)`\]\(([\w/]+)\.md\): \S", bytes_of(f"{TOP}/scenarios/README.md").decode(), re.M)
+    listed, wanted = sorted(f"scenarios/{path}.md" for name, path in index if os.path.basename(path) == name), sorted(shown)
+    return faults + ([] if listed == wanted else [f"scenarios/README.md: it hasn't a line for each page: {sorted(set(listed) ^ set(wanted))}"])
 
 
 def answer_faults(program, stored):
@@ -104,17 +120,17 @@ def asked(page):
 
 
 def question_faults(program, texts):
-    """What is wrong with the lessons' questions why something waits: an answer that isn't the program's, a command that stands there in
-    another form, a lesson that isn't asked."""
-    page, faults = bytes_of(f"{TOP}/scenarios/README.md").decode(), []
-    for words, answer in asked(page):
-        if failed(program, *words.replace("scenarios/", f"{TOP}/scenarios/").split()) != (0, answer.encode(), b""):
-            faults.append(f"scenarios/README.md: the answer to {words} is not as it should be")
-    if page.count("./cmwq why") != len(asked(page)):
-        faults.append("scenarios/README.md: not each `./cmwq why` stands behind a question, and before its answer")
-    lessons = {os.path.basename(text).partition(".")[0] for text in texts}
-    lessons -= {words.removeprefix("why scenarios/").partition(".")[0] for words, _answer in asked(page)}
-    return faults + [f"scenarios/README.md: {name} isn't asked why it waits" for name in sorted(lessons)]
+    """What is wrong with the pages' questions why something waits: an answer that isn't the program's, a command that stands there in
+    another form, a scenario that isn't asked."""
+    faults, lessons = [], {os.path.basename(text).partition(".")[0] for text in texts}
+    for name, page in pages().items():
+        for words, answer in asked(page):
+            lessons.discard(os.path.basename(words.split()[1]).partition(".")[0])
+            if failed(program, *words.replace("scenarios/", f"{TOP}/scenarios/").split()) != (0, answer.encode(), b""):
+                faults.append(f"{name}: the answer to {words} is not as it should be")
+        if page.count("./cmwq why") != len(asked(page)):
+            faults.append(f"{name}: not each `./cmwq why` stands behind a question, and before its answer")
+    return faults + [f"scenarios: {name} isn't asked why it waits" for name in sorted(lessons)]
 
 
 def asked_of_orders(page):
@@ -143,19 +159,21 @@ def found_faults(program, text, found):
 def order_faults(program, answers):
     """What is wrong with what is asked of all orders: with what is printed, the status, what the page shows of that, and an order that was
     found; a command that stands there in another form, an answer that isn't asked for."""
-    page, faults = bytes_of(f"{TOP}/scenarios/README.md").decode(), []
-    questions = asked_of_orders(page)
-    for words, name, status, shown in questions:
-        stored, text = f"{TOP}/scenarios/{name}", f"{TOP}/scenarios/{name.partition('.')[0]}.cmwq"
-        answer = bytes_of(stored) if stored in answers else b""
-        if failed(program, *words.replace("scenarios/", f"{TOP}/scenarios/").split()) != (int(status), answer, b""):
-            faults.append(f"scenarios/{name}: the answer to {words} is not as it should be")
-        if shown.encode() != answer[max(answer.find(b"\n# ") + 1, 0):] or words.split()[1] != os.path.relpath(text, TOP):
-            faults.append(f"scenarios/README.md: what is shown of {name} is not as it should be")
-        faults += found_faults(program, text, stored) if status == "5" else []
-    if page.count("./cmwq explore scenarios/") != len(questions) or sorted(name for _, name, *_ in questions) != sorted(map(os.path.basename, answers)):
-        faults.append("scenarios/README.md: not each answer about all orders stands behind its question, once")
-    return faults
+    faults, seen = [], []
+    for page, content in pages().items():
+        questions = asked_of_orders(content)
+        for words, name, status, shown in questions:
+            stored, text = f"{TOP}/{os.path.dirname(page)}/{name}", f"{TOP}/{os.path.dirname(page)}/{name.partition('.')[0]}.cmwq"
+            answer = bytes_of(stored) if stored in answers else b""
+            if failed(program, *words.replace("scenarios/", f"{TOP}/scenarios/").split()) != (int(status), answer, b""):
+                faults.append(f"scenarios/{name}: the answer to {words} is not as it should be")
+            if shown.encode() != answer[max(answer.find(b"\n# ") + 1, 0):] or words.split()[1] != os.path.relpath(text, TOP):
+                faults.append(f"{page}: what is shown of {name} is not as it should be")
+            faults += found_faults(program, text, stored) if status == "5" else []
+            seen.append(name)
+        if content.count("./cmwq explore scenarios/") != len(questions):
+            faults.append(f"{page}: not each `./cmwq explore` stands behind a question, and before its answer")
+    return faults + ([] if sorted(seen) == sorted(map(os.path.basename, answers)) else ["scenarios: not each answer about all orders stands behind its question, once"])
 
 
 def command_faults(program, room, name):
@@ -173,7 +191,7 @@ def first_page_faults(program, room):
     """What is wrong with the commands that README.md shows, and with its picture."""
     faults = command_faults(program, room, "README.md")
     shown = {word for command in re.findall(r"^\$ (.*)", bytes_of(f"{TOP}/README.md").decode(), re.M) for word in re.findall(r"\./cmwq (\w+)", command)}
-    faults += [f"README.md: no `{word}` is shown" for word in sorted({"new", "run", "draw", "why", "debug"} - shown)]
+    faults += [f"README.md: no `{word}` is shown" for word in sorted({"new", "run", "why", "explore", "times", "draw", "trace"} - shown)]
     if said(program, "draw", "--svg", f"{TOP}/scenarios/max_active_3.cmwq") != bytes_of(f"{TOP}/docs/max_active_3.svg"):
         faults.append("docs/max_active_3.svg: it isn't the lesson's picture")
     return faults
@@ -256,23 +274,37 @@ def quiet_faults(program, room):
     return faults + ([] if failed(program, "run", "--settle", text) == spent else ["run --settle: not the lines up to the steps' end"])
 
 
+def chapters():
+    """The pages of the tutorial."""
+    return sorted(os.path.relpath(it, TOP) for it in glob.glob(f"{TOP}/docs/tutorial/*.md"))
+
+
+def page_faults(program):
+    """What is wrong with the commands of README.md and of the tutorial."""
+    with tempfile.TemporaryDirectory(prefix="lessons-") as room:
+        faults = first_page_faults(os.path.abspath(program), room)
+        for page in chapters():
+            faults += command_faults(os.path.abspath(program), room, page)
+    return faults + ([] if chapters() else ["docs/tutorial/: there is no chapter to compare"])
+
+
 def main(program, calls=None):
-    plays = sorted({re.sub(r"\.play\d+$", ".cmwq", it) for it in glob.glob(f"{TOP}/scenarios/*.play*")})
-    orders = sorted(glob.glob(f"{TOP}/scenarios/*.explore_*"))
+    plays = sorted({re.sub(r"\.play\d+$", ".cmwq", it) for it in of_scenarios("*.play*")})
+    orders = of_scenarios("*.explore_*")
     explored = sorted({re.sub(r"\.explore_\w+$", ".cmwq", it) for it in orders})
-    texts = sorted(set(glob.glob(f"{TOP}/scenarios/*.cmwq")).difference(plays, explored))
+    texts = [it for it in of_scenarios("*.cmwq") if it not in {*plays, *explored}]
     examples = sorted(glob.glob(f"{TOP}/gate/examples/*.cmwq"))
-    drawings = sorted(glob.glob(f"{TOP}/scenarios/*.draw"))
-    answers = sorted(glob.glob(f"{TOP}/scenarios/*.why_*") + glob.glob(f"{TOP}/scenarios/*.flush_*"))
+    drawings = of_scenarios("*.draw")
+    answers = of_scenarios("*.why_*") + of_scenarios("*.flush_*")
     with tempfile.TemporaryDirectory(prefix="lessons-") as room:
         faults = [fault for text in texts + examples + plays + explored for fault in form_faults(program, text, room)]
         faults += [f"{os.path.relpath(text, TOP)}: it isn't as it is listed" for text in examples if said(program, "list", text) != bytes_of(text)]
         faults += [fault for text in texts + examples for fault in run_faults(program, text, room)]
         faults += [fault for text in texts + examples if calls for fault in history_faults(calls, program, text)]
-        faults += [fault for commands in sorted(glob.glob(f"{TOP}/scenarios/*.debug")) for fault in session_faults(program, commands)]
+        faults += [fault for commands in of_scenarios("*.debug") for fault in session_faults(program, commands)]
         faults += [fault for text in plays for fault in play_faults(program, text, room)]
         faults += shown_faults(program, texts) + quiet_faults(program, room) + question_faults(program, texts + plays)
-        faults += first_page_faults(os.path.abspath(program), room) + command_faults(os.path.abspath(program), room, "scenarios/README.md")
+        faults += page_faults(program) + [fault for page in pages() for fault in command_faults(os.path.abspath(program), room, page)]
         faults += order_faults(program, orders)
         faults += [fault for stored in answers for fault in answer_faults(program, stored)]
         faults += [fault for drawing in drawings for fault in drawing_faults(program, drawing)]
@@ -297,5 +329,12 @@ def main(program, calls=None):
     return 1 if faults else 0
 
 
+def main_of_pages(program):
+    faults = page_faults(program)
+    print("".join(f"lessons: {fault}\n" for fault in faults), end="")
+    print(f"lessons: README.md and {len(chapters())} pages of the tutorial compared, {len(faults)} faults")
+    return 1 if faults else 0
+
+
 if __name__ == "__main__":
-    sys.exit(main(*sys.argv[1:]))
+    sys.exit(main_of_pages(*sys.argv[2:]) if sys.argv[1:2] == ["--pages"] else main(*sys.argv[1:]))

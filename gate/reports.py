@@ -177,7 +177,7 @@ def line_of(it):
 
 
 def main(program):
-    texts = [it for it in sorted(glob.glob(f"{TOP}/scenarios/*.cmwq")) if open(it, encoding="utf-8").read().count("\nactor ") == 1]
+    texts = [it for it in sorted(glob.glob(f"{TOP}/scenarios/**/*.cmwq", recursive=True)) if open(it, encoding="utf-8").read().count("\nactor ") == 1]
     lessons, stored = [Lesson(os.path.abspath(program), it) for it in texts], 0
     for it in lessons:
         stored += it.stored()

@@ -72,7 +72,7 @@ def main(program):
         for name, text in MADE.items():
             with open(f"{room}/{name}.cmwq", "w", encoding="utf-8") as it:
                 it.write(text)
-        lessons = [it for it in sorted(glob.glob(f"{TOP}/scenarios/*.cmwq")) if len(re.findall(r"^actor ", open(it, encoding="utf-8").read(), re.M)) == 1]
+        lessons = [it for it in sorted(glob.glob(f"{TOP}/scenarios/**/*.cmwq", recursive=True)) if len(re.findall(r"^actor ", open(it, encoding="utf-8").read(), re.M)) == 1]
         for text in lessons + [f"{room}/{name}.cmwq" for name in MADE]:
             count += 1
             faults += trace_faults(program, os.path.basename(text), text, f"{room}/{count}.dat")

@@ -57,7 +57,7 @@ def words_of_commands():
 
 def lacks(path, words):
     """Which words don't stand in the file."""
-    plain = text_of(path).replace("\\-", "-")
+    plain = re.sub(r"\\f[BIR]", " ", text_of(path)).replace("\\-", "-")
     return [f"{path} doesn't have {word}" for word in sorted(words) if not re.search(rf"(?<![\w-]){re.escape(word)}(?![\w-])", plain)]
 
 
@@ -74,8 +74,9 @@ def version_faults(program):
     faults = [f"{page} is of another version" for page in PAGES if f'"cmwq {version}"' not in text_of(page)]
     if shutil.which("rt") and said("rt", "version").split()[-1:] != [logic]:
         faults.append("main.rt names another logic than that of the kit that is here")
-    if f"`{logic}`" not in text_of("README.md"):
-        faults.append("README.md names another logic than main.rt")
+    faults += [f"{page} names another logic than main.rt" for page in ("README.md", "docs/PROVED.md") if f"`{logic}`" not in text_of(page)]
+    if f"version {version}" not in text_of("README.md") or f"\n## {version} " not in text_of("CHANGELOG.md"):
+        faults.append("README.md or CHANGELOG.md is of another version")
     if program and said(program, "--version") != f"cmwq {version} (logic {logic})\n":
         faults.append("the program's version isn't that of help.rt, with the logic of main.rt")
     return faults

@@ -4,7 +4,9 @@
   tools/documents.py --check   compares, and says which document isn't as computed
 
 In docs/MAP.md the crates by storeys, from crates.txt and the first paragraph of each crate's root file; in docs/MODEL.md the definitions
-that some public contracts cite, as far as these go, with their files and lines. Both stand between two comments."""
+that some public contracts cite, as far as these go, with their files and lines; in docs/PROVED.md what is proved of each crate, from the
+lines `//! Proved: ..` and `//! Not proved: ..` of its root file, or from its entry in docs/PROVED.txt. Each is between two comments. And it follows
+the links of the documents."""
 import glob
 import os
 import pathlib
@@ -23,6 +25,8 @@ PROMISES = [
     ("the lock", [("cmwq_lock/src/lock.rt", "")]),
 ]
 BEGINS = re.compile(r"^\s*(?:(?:abbrev|unfoldable|opaque|pub)\s+)*(?:record\s+|data\s+)?([^\s:(){},]+)\s*(?:[({].*)?:(?:\s|$)")
+# A line on what is proved of a crate, or what isn't.
+CLAIM = re.compile(r"(Proved|Not proved): (.+)")
 IMPORT = re.compile(r"^\s*(?:pub )?(?:ghost )?use Rattle\.([\w.]+?)(?:\.\{(.*?)\}| as (\w+));?\s*$")
 
 
@@ -136,10 +140,55 @@ def map_rows(root):
             rows += ["", f"### {line[2:]}", "", "| Crate | What it is |", "|---|---|"]
         elif line.strip():
             name = line.split(":")[0].split()[0]
-            source = next(path for path in (f"{root}/crates/{name}/src/{it}.rt" for it in ("lib", "main")) if os.path.exists(path))
-            head = re.match(r"((?://! .*\n)+)", pathlib.Path(source).read_text("utf-8"))[1]
-            rows.append(f"| `{name}` | {' '.join(it[4:] for it in head.splitlines())} |")
+            head = re.match(r"((?://! .*\n)+)", root_file(root, name))[1]
+            lines = [it[4:] for it in head.splitlines() if not CLAIM.match(it[4:])]
+            rows.append(f"| `{name}` | {' '.join(lines)} |")
     return rows[1:]
+
+
+def root_file(root, name):
+    """Returns the text of a crate's root file."""
+    source = next(path for path in (f"{root}/crates/{name}/src/{it}.rt" for it in ("lib", "main")) if os.path.exists(path))
+    return pathlib.Path(source).read_text("utf-8")
+
+
+def stored_claims(root):
+    """Returns the entries of docs/PROVED.txt: of each crate its lines."""
+    parts = pathlib.Path(root, "docs/PROVED.txt").read_text("utf-8").split("\n\n")
+    entries = [part.strip().splitlines() for part in parts if not part.startswith("#")]
+    return {name: lines for name, *lines in entries}
+
+
+def claims_of(root, name, stored):
+    """Returns what a crate says that is proved, and that isn't: the lines of its root file, or else its entry."""
+    own = [line[4:] for line in root_file(root, name).splitlines() if line.startswith("//! ") and CLAIM.match(line[4:])]
+    return own or stored.get(name, [])
+
+
+def proved_rows(root):
+    """The crates, storey by storey, each with what is proved of it."""
+    rows, stored = [], stored_claims(root)
+    for line in pathlib.Path(root, "crates.txt").read_text("utf-8").splitlines():
+        if line.startswith("# "):
+            rows += ["", f"## {line[2:]}", ""]
+        elif line.strip():
+            name = line.split(":")[0].split()[0]
+            claims = [f"*{found[1]}:* {found[2]}" for found in map(CLAIM.match, claims_of(root, name, stored)) if found]
+            rows.append(f"- `{name}`. {' '.join(claims)}")
+    return rows[1:]
+
+
+def claim_faults(root):
+    """The crates without a line on what is proved, those that have it twice, and entries of no crate."""
+    names = [line.split(":")[0].split()[0] for line in pathlib.Path(root, "crates.txt").read_text("utf-8").splitlines() if line.strip() and line[0] != "#"]
+    stored = stored_claims(root)
+    faults = [f"docs/PROVED.txt: {name} isn't a crate" for name in stored if name not in names]
+    for name in names:
+        own = claims_of(root, name, {})
+        if bool(own) == (name in stored):
+            faults.append(f"{name}: its root file {'and docs/PROVED.txt both say' if own else 'or docs/PROVED.txt should say'} what is proved of it")
+    lines = [(name, line) for name in names for line in claims_of(root, name, stored)]
+    return faults + [f"{name}: {line!r} begins neither with Proved: nor with Not proved:" for name, line in lines if not CLAIM.match(line)]
 
 
 def lost_steps(root):
@@ -149,13 +198,36 @@ def lost_steps(root):
     return [f"docs/MAP.md: {path} has no `{name}`" for path, text, names in sources for name in names if not re.search(rf"\bfn {name}\b", text)]
 
 
+def anchors(text):
+    """Returns the anchors of a page's headings, as viewers of Markdown make them."""
+    plain = re.sub(r"^```.*?^```$", "", text, flags=re.S | re.M)
+    found, seen = set(), {}
+    for heading in re.findall(r"^#+ (.*)$", plain, re.M):
+        name = re.sub(r"[^\w -]", "", heading.lower()).replace(" ", "-")
+        found.add(f"{name}-{seen[name]}" if name in seen else name)
+        seen[name] = seen.get(name, 0) + 1
+    return found
+
+
+def lost_links(root):
+    """The links of the documents that lead to no file or to no heading."""
+    faults, pages = [], {path: pathlib.Path(path).read_text("utf-8") for path in glob.glob(f"{root}/*.md") + glob.glob(f"{root}/docs/**/*.md", recursive=True) + glob.glob(f"{root}/scenarios/**/*.md", recursive=True)}
+    for page, text in sorted(pages.items()):
+        for link in re.findall(r"\]\((?!https?:)([^)\s]+)\)", re.sub(r"^```.*?^```$|`[^`\n]*`", "", text, flags=re.S | re.M)):
+            file, _, anchor = link.partition("#")
+            path = os.path.normpath(f"{os.path.dirname(page)}/{file}") if file else page
+            if not os.path.exists(path) or anchor and anchor not in anchors(pages.get(path, "")):
+                faults.append(f"{os.path.relpath(page, root)}: the link {link} leads nowhere")
+    return faults
+
+
 def computed(root):
     """Each document's path, the word that its comments have, and what should stand between them."""
-    return [("docs/MAP.md", "crates", map_rows(root)), ("docs/MODEL.md", "road", road_rows(root))]
+    return [("docs/MAP.md", "crates", map_rows(root)), ("docs/MODEL.md", "road", road_rows(root)), ("docs/PROVED.md", "proved", proved_rows(root))]
 
 
 def main(*words):
-    faults = lost_steps(TOP)
+    faults = lost_steps(TOP) + lost_links(TOP) + claim_faults(TOP)
     for path, word, rows in computed(TOP):
         text = pathlib.Path(TOP, path).read_text("utf-8")
         made = re.sub(rf"(<!-- {word}: .*-->\n)(?:.*\n)*?(<!-- end -->)", lambda it: it[1] + "\n".join(["", *rows, "", ""]) + it[2], text)

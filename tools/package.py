@@ -24,9 +24,7 @@ PARTS = [
     ("editors/vim", "share/vim/vimfiles"),
     *((f"editors/{name}", f"share/cmwq/vscode/{name}") for name in ("package.json", "language-configuration.json", "cmwq.tmLanguage.json")),
     ("scenarios", "scenarios"),
-    ("docs/FORMATS.md", "docs/FORMATS.md"),
-    ("docs/KERNEL.md", "docs/KERNEL.md"),
-    ("docs/MODEL.md", "docs/MODEL.md"),
+    *((f"docs/{name}", f"docs/{name}") for name in ("tutorial", "FORMATS.md", "GLOSSARY.md", "KERNEL.md", "MODEL.md")),
 ]
 README = """cmwq {version}: Linux's concurrency-managed workqueue, emulated
 
@@ -36,7 +34,8 @@ README = """cmwq {version}: Linux's concurrency-managed workqueue, emulated
 
 bin/cmwq runs on any Linux on x86-64 (x86-64-v2, since 2009); it needs no library of the system. share/man has its pages (man -l share/man/man1/cmwq.1),
 and so have bash, zsh and fish their completions and vim its colours there: copied into /usr/local, or any prefix that these look into, all is found.
-share/cmwq/vscode is an extension for Visual Studio Code (copy it to ~/.vscode/extensions/cmwq). scenarios/README.md is a course of lessons, in which ./cmwq stands for the program; docs/FORMATS.md is the reference.
+share/cmwq/vscode is an extension for Visual Studio Code (copy it to ~/.vscode/extensions/cmwq). docs/tutorial/README.md is a tutorial, and scenarios/README.md lists the
+examples; write bin/cmwq for ./cmwq there. docs/FORMATS.md is the reference.
 """
 
 
