@@ -1,5 +1,5 @@
 //! What should be known of a run that ended well.
-ghost use Rattle.cmwq_remarks.specs.Remarks.{AreRemarks, counted, early_text, early_told, left_count, left_line, lets_move, pending_count, pending_line, pending_told, refused_line, refused_text, remarks_of, run_remarks, spent_line, spent_told, stops_by_itself, tells_pending, tells_refusals};
+ghost use Rattle.cmwq_remarks.specs.Remarks.{AreRemarks, counted, early_text, early_told, left_count, left_line, lets_move, pending_count, pending_line, pending_told, refused_line, refused_text, remarks_of, run_remarks, spent_line, spent_told, spent_words, stops_by_itself, tells_pending, tells_refusals};
 ghost use Rattle.cmwq_remarks.specs.Traps.{first_early};
 ghost use Rattle.cmwq_table.specs.State.{start};
 ghost use Rattle.cmwq_types.specs.Faults.{IsValid};
@@ -112,6 +112,13 @@ fn push_spent(told: &mut String, count: u32, steps: u32) -> Result<(), NoMemory>
     if count == 0 {
         return Ok(());
     }
+    push_spent_words(told, count, steps)
+}
+
+/// Appends that so many instructions were refused since these steps were spent.
+fn push_spent_words(told: &mut String, count: u32, steps: u32) -> Result<(), NoMemory>
+    ensures { OnOk result (string_bytes told.new ≡ string_bytes told.old ++ spent_words count steps) }
+{
     push_count(
         told,
         count as usize,

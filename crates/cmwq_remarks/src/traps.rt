@@ -58,12 +58,9 @@ fn wait_sentence(alloc: Global, flush: &[u8]) -> Result<Vec<u8>, NoMemory>
 fn count_sentence(alloc: Global, form: &[u8], goal: &[u8]) -> Result<Vec<u8>, NoMemory>
     ensures { IfOk result (λ said. said.items ≡ count_sentence form.now goal.now) }
 {
-    let mut said = joined(
-        alloc,
-        b"without a count it makes at most one move; write ",
-        form,
-        b" * 100 to continue until ",
-    )?;
+    let mut said = Vec::from_slice(alloc, b"without a count it makes at most one move; write ")?;
+    said.extend_from_slice(form)?;
+    said.extend_from_slice(b" * 100 to continue until ")?;
     said.extend_from_slice(goal)?;
     Ok(said)
 }
@@ -115,29 +112,27 @@ pub(crate) fn cpu_sentence(
 ) -> Result<Vec<u8>, NoMemory>
     ensures { IfOk result (λ said. said.items ≡ cpu_sentence cpus word.now cpu.now) }
 {
-    let mut buffer = Buffer::new();
-    let mut said = joined(
-        alloc,
-        b"the run refuses its CPU; cpus is ",
-        buffer.format(cpus).as_bytes(),
-        b" and CPUs count from 0, so there is no CPU ",
-    )?;
+    let form = cpu_form(alloc, word)?;
+    let mut said = Vec::from_slice(alloc, b"the run refuses its CPU; cpus is ")?;
+    said.extend_from_slice(Buffer::new().format(cpus).as_bytes())?;
+    said.extend_from_slice(b" and CPUs count from 0, so there is no CPU ")?;
     said.extend_from_slice(cpu)?;
     said.extend_from_slice(b": ")?;
-    said.extend_from_slice(word)?;
-    said.extend_from_slice(operands_with_cpu(word))?;
+    said.extend_from_slice(&form)?;
     Ok(said)
 }
 
-/// Returns the operands of a line of this word, each behind a blank.
-fn operands_with_cpu(word: &[u8]) -> &'static [u8]
-    ensures { word.now ++ result.now ≡ cpu_form word.now }
+/// Returns how a line of this word is written, which has a CPU.
+fn cpu_form(alloc: Global, word: &[u8]) -> Result<Vec<u8>, NoMemory>
+    ensures { IfOk result (λ form. form.items ≡ cpu_form word.now) }
 {
-    if is_word(word, b"queue") {
+    let mut form = Vec::from_slice(alloc, word)?;
+    form.extend_from_slice(if is_word(word, b"queue") {
         b" WORK CPU"
     } else {
         b" WORK CPU N"
-    }
+    })?;
+    Ok(form)
 }
 
 /// Returns whether the actors have more instructions, questions aside, than are accepted.

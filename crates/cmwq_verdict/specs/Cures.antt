@@ -44,9 +44,12 @@ abbrev pub is_declaration : Next → Bool
 is_declaration (next.Declaration room queues) = true
 is_declaration other = false
 
+abbrev pub is_barred : List ℕ → Bool
+is_barred bytes = list_any (λ byte. byte == 124) bytes
+
 abbrev pub has_bar : List (List ℕ) → Bool
 has_bar [] = false
-has_bar (line ∷ more) = list_any (λ byte. byte == 124) (worded_part line)
+has_bar (line ∷ more) = is_barred (worded_part line)
 
 abbrev pub bar_cure : Next → (is_behind has_it : Bool) → Option (List ℕ)
 bar_cure next is_behind has_it = if is_declaration next && (is_behind && has_it) then Some bar_words else None

@@ -1,17 +1,17 @@
 //! What is said of a fault beside its reason.
 ghost use Rattle.cmwq_grammar.specs.Cutting.{is_empty, lines_of, words_of};
 ghost use Rattle.cmwq_grammar.specs.Meaning.{fault_at};
-ghost use Rattle.cmwq_verdict.specs.Cures.{article_of, bar_cure, bodiless, bodiless_words, body_cure, cure, cure_at, has_bar, is_comment, is_declaration, kernel_cure, missing_cure, missing_in, missing_words, name_behind, names_in, wants_bodies, word_cure, written_words};
+ghost use Rattle.cmwq_verdict.specs.Cures.{article_of, bar_cure, bodiless, bodiless_words, body_cure, cure, cure_at, has_bar, is_barred, is_comment, is_declaration, kernel_cure, missing_cure, missing_in, missing_words, name_behind, names_in, wants_bodies, word_cure, written_words};
 ghost use Rattle.cmwq_types.specs.First.{or_else};
 ghost use Rattle.cmwq_verdict.specs.Forms.{form_at};
 ghost use Rattle.cmwq_verdict.specs.WordPlaces.{IsNext, line_before, text_before};
 ghost use Rattle.cmwq_scan.specs.Words.{words_in};
-ghost use Rattle.std.specs.Prelude.{◌≡◌, ◌≢◌, ◌++◌, IfOk, OnOk, Some, drop, length, map, not, option_map};
+ghost use Rattle.std.specs.Prelude.{◌≡◌, ◌≢◌, ◌++◌, IfOk, None, OnOk, Some, drop, length, map, not, option_map};
 
 use crate::finding::{Finding, column_of_place, line_before, lines_before, text_before};
 use crate::forms::{call_name, form_at, kernel_form};
 use crate::places::{FaultPlace, rest_from};
-use crate::writing::{push_between, push_bytes};
+use crate::writing::push_between;
 use cmwq_fitting::{TextFault, front_of};
 use cmwq_grammar::{Next, Why};
 use cmwq_scan::{Token, Tokens, is_word, next_line, next_word, read_tokens, worded_part};
@@ -174,9 +174,16 @@ fn has_bar(rest: &[u8]) -> bool
     ensures { result ≡ has_bar (lines_of rest.now) }
 {
     match next_line(rest) {
-        Some((line, _)) => worded_part(line).iter().any(|byte| *byte == b'|'),
+        Some((line, _)) => is_barred(worded_part(line)),
         None => false,
     }
+}
+
+/// Returns whether a `|` is among the bytes.
+fn is_barred(bytes: &[u8]) -> bool
+    ensures { result ≡ is_barred bytes.now }
+{
+    bytes.iter().any(|byte| *byte == b'|')
 }
 
 /// Returns which work has no body behind these lines, where bodies are wanted.
@@ -246,11 +253,10 @@ fn bodiless_words(alloc: Global, work: &[u8]) -> Result<Vec<u8>, NoMemory>
     ensures { IfOk result (λ words. words.items ≡ bodiless_words work.now) }
 {
     let mut words = Vec::from_slice(alloc, b"work ")?;
-    push_between(&mut words, work, b" has no body: body ", work)?;
-    push_bytes(
-        &mut words,
-        b", its operations and finish stand before the actors",
-    )?;
+    words.extend_from_slice(work)?;
+    words.extend_from_slice(b" has no body: body ")?;
+    words.extend_from_slice(work)?;
+    words.extend_from_slice(b", its operations and finish stand before the actors")?;
     Ok(words)
 }
 
@@ -287,27 +293,31 @@ fn missing_in(alloc: Global, count: usize, form: Vec<u8>) -> Result<Vec<u8>, NoM
 {
     let mut operands = Tokens::new(alloc);
     read_tokens(&mut operands, &form)?;
-    let mut words = Vec::from_slice(alloc, &form)?;
-    push_missing(&mut words, operands.get(count))?;
+    match operands.get(count) {
+        Some(operand) => missing_operand(alloc, &form, operand.bytes()),
+        None => missing_times(alloc, &form),
+    }
+}
+
+/// Returns that this operand of a line that is written so is missing.
+fn missing_operand(alloc: Global, form: &[u8], operand: &[u8]) -> Result<Vec<u8>, NoMemory>
+    ensures { IfOk result (λ words. words.items ≡ missing_words form.now (Some operand.now)) }
+{
+    let mut words = Vec::from_slice(alloc, form)?;
+    words.extend_from_slice(b": ")?;
+    words.extend_from_slice(article_of(operand))?;
+    words.extend_from_slice(operand)?;
+    words.extend_from_slice(b" is missing")?;
     Ok(words)
 }
 
-/// Adds that this operand is missing; without one, that the number of times is.
-fn push_missing(words: &mut Vec<u8>, operand: Option<&Token<'_>>) -> Result<(), NoMemory>
-    ensures { OnOk result (words.new.items ≡ missing_words words.old.items (option_map (λ operand. operand.now.bytes) operand.entry)) }
+/// Returns that in a line that is written so the number of times is missing.
+fn missing_times(alloc: Global, form: &[u8]) -> Result<Vec<u8>, NoMemory>
+    ensures { IfOk result (λ words. words.items ≡ missing_words form.now None) }
 {
-    match operand {
-        Some(operand) => {
-            push_bytes(words, b": ")?;
-            push_between(
-                words,
-                article_of(operand.bytes()),
-                operand.bytes(),
-                b" is missing",
-            )
-        }
-        None => push_bytes(words, b" * N: the number N is missing"),
-    }
+    let mut words = Vec::from_slice(alloc, form)?;
+    words.extend_from_slice(b" * N: the number N is missing")?;
+    Ok(words)
 }
 
 /// Returns what stands before the operand's name.

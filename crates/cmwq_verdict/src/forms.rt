@@ -2,7 +2,7 @@
 ghost use Rattle.cmwq_grammar.specs.Cutting.{lines_of, words_of};
 ghost use Rattle.cmwq_types.specs.Mnemonics.{mnemonic_of};
 ghost use Rattle.cmwq_verdict.specs.Forms.{begin_with, call_name, ends_name, form_at, form_of_word, instruction_operands, kernel_form, kernel_words, operands_at, rest_in};
-ghost use Rattle.std.specs.Prelude.{◌≡◌, IfOk, drop, option_map};
+ghost use Rattle.std.specs.Prelude.{◌≡◌, ◌≤◌, IfOk, IfSome, drop, length, option_map, position};
 
 use cmwq_grammar::Next;
 use cmwq_language::operand_names;
@@ -145,10 +145,18 @@ fn kernel_words(next: Next) -> &'static [u8]
 pub(crate) fn call_name(word: &[u8]) -> &[u8]
     ensures { result.now ≡ call_name word.now }
 {
-    match word.iter().position(|byte| ends_name(*byte)) {
+    match name_end(word) {
         Some(n) => word.split_at(n).0,
         None => word,
     }
+}
+
+/// Returns where the name of a call ends, if something follows it.
+fn name_end(word: &[u8]) -> Option<usize>
+    ensures end { result ≡ position ends_name word.now }
+    ensures within { IfSome result (λ n. n ≤ length word.now) }
+{
+    word.iter().position(|byte| ends_name(*byte))
 }
 
 fn ends_name(byte: u8) -> bool
