@@ -1,5 +1,5 @@
 -- No two works have one letter.
-use Rattle.std.proofs.Common.{◌≡◌, ◌≢◌, ℕ, zero, suc, ◌+◌, ◌≤◌, ◌<◌, Bool, true, false, true≢false, not, ◌&&◌, ◌||◌, List, [], ◌∷◌, ◌++◌, Option, Some, None, cond, eq-eqb, arith, refl, sym, ap, ap₂, ◌∙◌, inl, inr, nat_le, length, subst}
+use Rattle.std.proofs.Common.{◌≡◌, ℕ, suc, ◌+◌, ◌≤◌, ◌<◌, Bool, true, false, true≢false, not, ◌&&◌, ◌||◌, List, [], ◌∷◌, ◌++◌, Option, Some, None, cond, eq-eqb, arith, refl, sym, ap, ap₂, ◌∙◌, length}
 use Rattle.std.proofs.Math.Dec.{eqb, leb}
 use Rattle.std.proofs.lemmas.Bool.{eqb-true, le-leb, leb-true}
 use Rattle.std.proofs.lemmas.List.Folds.{find-append}
@@ -11,7 +11,7 @@ use Rattle.std.specs.Option.{is_some, option_or, unwrap_or}
 use Rattle.std.specs.Set.{is_member}
 use Rattle.cmwq_types.specs.Contents.{WorkContents}
 use Rattle.cmwq_render.specs.Laws.{EachHasOne, NoTwoAreAlike}
-use Rattle.cmwq_render.specs.Letters.{alphabet, candidates, free_letter, is_free, is_letter, is_spare, letter_of, letters_from}
+use Rattle.cmwq_render.specs.Letters.{alphabet, free_letter, is_free, is_letter, is_spare, letter_of, letters_from}
 
 swapped : (m n : ℕ) → eqb m n ≡ eqb n m
 swapped m n = by (eqb m n) (eqb n m) refl refl

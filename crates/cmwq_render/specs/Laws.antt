@@ -1,5 +1,5 @@
 -- What the letters of works are.
-use Rattle.std.specs.Prelude.{◌≡◌, ◌≤◌, ℕ, false, length, ◌==◌}
+use Rattle.std.specs.Prelude.{◌≡◌, ◌≤◌, false, length, ◌==◌}
 use Rattle.std.specs.List.{IsDistinct, list_any}
 use Rattle.cmwq_types.specs.Contents.{ScenarioContents}
 use Rattle.cmwq_picture.specs.declared.cell.Sign.{Sign}
