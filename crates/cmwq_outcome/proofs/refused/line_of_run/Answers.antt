@@ -1,4 +1,4 @@
-use Rattle.std.proofs.Common.{◌≡◌, ◌∙◌, rules, ap, inl, subst, sym, Global, IfOk, Option, Vec, option_map, ℕ}
+use Rattle.std.proofs.Common.{◌≡◌, ◌∙◌, rules, ap, inl, subst, sym, Global, Option, Vec, option_map, ℕ}
 use Rattle.std.proofs.lemmas.Result.{IfOk-weaker}
 use Rattle.std.specs.Prelude.{slice_index_or}
 use Rattle.cmwq_types.specs.Contents.{ActorContents, ScenarioContents}
