@@ -1,5 +1,5 @@
 -- What is told of a strict run: how many instructions of the actor were refused, and at which position the first one was issued.
-use Rattle.std.specs.Prelude.{◌≡◌, ◌⊎◌, ℕ, List, ◌++◌, Option, None, codes, option_map}
+use Rattle.std.specs.Prelude.{◌≡◌, ◌⊎◌, ◌==◌, ℕ, List, ◌++◌, Option, None, codes, if◌then◌else◌, option_map}
 use Rattle.std.specs.Fmt.{decimal}
 use Rattle.cmwq_types.specs.Contents.{ActorContents, ScenarioContents}
 use Rattle.cmwq_types.specs.Scenario.{expand}
@@ -9,12 +9,15 @@ use Rattle.cmwq_grammar.specs.FaultLaw.{IsFault}
 use Rattle.cmwq_grammar.specs.Grammar.{Spells}
 use Rattle.cmwq_grammar.specs.Meaning.{FaultAt}
 use Rattle.cmwq_play.specs.Runs.{CanRun, IsRunOf}
-use Rattle.cmwq_remarks.specs.Remarks.{counted, first_refusal, refusal_count}
+use Rattle.cmwq_remarks.specs.Remarks.{first_refusal, refusal_count}
 
--- the line; a position is the number of instructions that were issued before
+-- The line. A position is the number of instructions that were issued before.
+
+abbrev pub words_between : (count : ℕ) → List ℕ
+words_between count = if count == 1 then codes " instruction, at position " else codes " instructions, first at position "
+
 abbrev pub refused_line : (count position : ℕ) → List ℕ
-refused_line count position =
-    codes "refused " ++ (counted count (codes " instruction, at position ") (codes " instructions, first at position ") ++ (decimal position ++ codes "\n"))
+refused_line count position = codes "refused " ++ (decimal count ++ (words_between count ++ (decimal position ++ codes "\n")))
 
 -- the line on these replies, if one of them is a refusal
 abbrev pub line_on : List Reply → Option (List ℕ)

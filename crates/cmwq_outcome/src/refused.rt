@@ -1,5 +1,5 @@
 //! What is told of a strict run.
-ghost use Rattle.cmwq_outcome.specs.Refused.{IsLineOf, IsRefusedLine, line_on, refused_line};
+ghost use Rattle.cmwq_outcome.specs.Refused.{IsLineOf, IsRefusedLine, line_on, refused_line, words_between};
 ghost use Rattle.cmwq_remarks.specs.Examples.{refused_twice};
 ghost use Rattle.cmwq_types.specs.Faults.{IsValid};
 ghost use Rattle.cmwq_types.specs.declared.reply.Refusal.TheVariants as refusal;
@@ -70,17 +70,24 @@ fn line_of_actor<M: Machine>(
     }
 }
 
+/// Returns what is told between the number of refusals and the position.
+fn words_between(count: u32) -> &'static str
+    ensures { result.now ≡ words_between count }
+{
+    if count == 1 {
+        " instruction, at position "
+    } else {
+        " instructions, first at position "
+    }
+}
+
 /// Returns the line on so many refusals, the first of which is at this position.
 fn line(alloc: Global, count: u32, position: u32) -> Result<Vec<u8>, NoMemory>
     ensures { IfOk result (λ line. line.items ≡ refused_line count position) }
 {
     let mut line = String::from_str(alloc, "refused ")?;
     line.push_str(Buffer::new().format(count))?;
-    line.push_str(if count == 1 {
-        " instruction, at position "
-    } else {
-        " instructions, first at position "
-    })?;
+    line.push_str(words_between(count))?;
     line.push_str(Buffer::new().format(position))?;
     line.push_str("\n")?;
     Ok(line.into_bytes())
