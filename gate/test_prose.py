@@ -97,7 +97,11 @@ def checking():
         assert prose.table(prose.counts_of(room)).partition("\n")[2] == good
         assert not faults(good) and not faults(good.replace("1 0 3", "2 1 9"))
         assert faults(good.replace("1 1 3", "0 1 2")) == ["docs/PAGE.md: 1 long sentences, and 0 are allowed, 3 listed words, and 2 are allowed"]
-        assert len(faults("")) == 2 and faults(f"{good}docs/GONE.md 1 0 0\n") == ["docs/GONE.md: tools/prose.figures has it, and it isn't there"]
+        for size, wanted in [(1000, []), (1001, ["README.md: 1001 words, and 1000 are allowed"])]:
+            with open(f"{room}/README.md", "w", encoding="utf-8") as it:
+                it.write("Word.\n" * size)
+            assert faults(good) == wanted, size
+        assert len(faults("")) == 3 and faults(f"{good}docs/GONE.md 1 0 0\n")[0] == "docs/GONE.md: tools/prose.figures has it, and it isn't there"
 
 
 def ending():

@@ -7,7 +7,8 @@ project replaces by plainer ones.
   tools/prose.py --write    writes the counts into tools/prose.figures
 
 It reads the documents, the manual pages, and the texts that the program prints, in the sources that hold them. Code font, code blocks and
-the programs' own formats don't count. A file that has no line in tools/prose.figures may have nothing that counts."""
+the programs' own formats don't count. A file that has no line in tools/prose.figures may have nothing that counts. README.md and
+CONTRIBUTING.md have a most number of words."""
 import glob
 import os
 import pathlib
@@ -18,6 +19,8 @@ sys.dont_write_bytecode = True
 TOP = os.path.dirname(os.path.dirname(os.path.realpath(__file__)))
 FIGURES = "tools/prose.figures"
 MOST_WORDS_OF_A_SENTENCE, MOST_WORDS_OF_A_CELL = 25, 20
+# Pages that are short on purpose, and their most words, with all that is in code font.
+MOST_WORDS_OF_A_PAGE = {"README.md": 1000, "CONTRIBUTING.md": 1200}
 DOCUMENTS = ["*.md", "docs/**/*.md", "scenarios/**/*.md", "man/*.[15]"]
 # The sources of the texts that the program prints.
 PRINTED = ["cmwq_command_line/src/help.rt", "cmwq_language/src/*.rt", "cmwq_advice/src/*.rt", "cmwq_remarks/src/noted.rt", "cmwq_remarks/src/remarked.rt", "cmwq_debug_lines/src/verb.rt"]
@@ -189,7 +192,8 @@ def faults_of(root):
         most = allowed.get(path, (0, 0, 0))
         more = [f"{now} {what}, and {then} are allowed" for now, then, what in zip(found, most, ("long sentences", "long cells", "listed words")) if now > then]
         faults += [f"{path}: {', '.join(more)}"] if more else []
-    return faults
+    sizes = {path: len(pathlib.Path(root, path).read_text("utf-8").split()) for path in MOST_WORDS_OF_A_PAGE if path in counts}
+    return faults + [f"{path}: {size} words, and {MOST_WORDS_OF_A_PAGE[path]} are allowed" for path, size in sizes.items() if size > MOST_WORDS_OF_A_PAGE[path]]
 
 
 def table(counts):
