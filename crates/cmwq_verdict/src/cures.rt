@@ -265,11 +265,10 @@ fn push_name<'t>(
 fn bodiless_words(alloc: Global, work: &[u8]) -> Result<Vec<u8>, NoMemory>
     ensures { IfOk result (λ words. words.items ≡ bodiless_words work.now) }
 {
+    let mut end = Vec::from_slice(alloc, work)?;
+    end.extend_from_slice(b", its operations and finish stand before the actors")?;
     let mut words = Vec::from_slice(alloc, b"work ")?;
-    words.extend_from_slice(work)?;
-    words.extend_from_slice(b" has no body: body ")?;
-    words.extend_from_slice(work)?;
-    words.extend_from_slice(b", its operations and finish stand before the actors")?;
+    push_between(&mut words, work, b" has no body: body ", &end)?;
     Ok(words)
 }
 
