@@ -80,11 +80,9 @@ fn wait_sentence(alloc: Global, flush: &[u8]) -> Result<Vec<u8>, NoMemory>
 fn count_sentence(alloc: Global, form: &[u8], goal: &[u8]) -> Result<Vec<u8>, NoMemory>
     ensures { IfOk result (λ said. said.items ≡ count_sentence form.now goal.now) }
 {
-    let mut said = Vec::from_slice(alloc, b"without a count it makes at most one move; write ")?;
-    said.extend_from_slice(form)?;
-    said.extend_from_slice(b" * 100 to continue until ")?;
-    said.extend_from_slice(goal)?;
-    Ok(said)
+    let end = joined(alloc, b" * 100 to continue until ", goal, b"")?;
+    let front = b"without a count it makes at most one move; write ";
+    joined(alloc, front, form, &end)
 }
 
 /// Returns these bytes one behind the other.
@@ -135,13 +133,11 @@ pub(crate) fn cpu_sentence(
     ensures { IfOk result (λ said. said.items ≡ cpu_sentence cpus word.now cpu.now) }
 {
     let form = cpu_form(alloc, word)?;
-    let mut said = Vec::from_slice(alloc, b"the run refuses its CPU; cpus is ")?;
-    said.extend_from_slice(Buffer::new().format(cpus).as_bytes())?;
-    said.extend_from_slice(b" and CPUs count from 0, so there is no CPU ")?;
-    said.extend_from_slice(cpu)?;
-    said.extend_from_slice(b": ")?;
-    said.extend_from_slice(&form)?;
-    Ok(said)
+    let missing = joined(alloc, cpu, b": ", &form)?;
+    let mut buffer = Buffer::new();
+    let there = b" and CPUs count from 0, so there is no CPU ";
+    let end = joined(alloc, buffer.format(cpus).as_bytes(), there, &missing)?;
+    joined(alloc, b"the run refuses its CPU; cpus is ", &end, b"")
 }
 
 /// Returns how a line of this word is written, which has a CPU.
