@@ -27,13 +27,19 @@ until_sentence time = count_sentence (codes "until " ++ time) (codes "tick " ++ 
 abbrev pub wait_sentence : (flush : List ℕ) → List ℕ
 wait_sentence flush = count_sentence (codes "wait " ++ flush) (codes "flush " ++ (flush ++ codes " is done"))
 
--- what is said of a line of these words that has no count
-abbrev pub uncounted : (word : List ℕ) → (operands : List (List ℕ)) → Option (List ℕ)
-uncounted word [] = if bytes_eq word (codes "quiet") then Some quiet_sentence else None
-uncounted word (operand ∷ []) =
+-- what is said of a line that has no count: of its word alone, and of its word with one operand
+abbrev pub uncounted_alone : (word : List ℕ) → Option (List ℕ)
+uncounted_alone word = if bytes_eq word (codes "quiet") then Some quiet_sentence else None
+
+abbrev pub uncounted_with : (word operand : List ℕ) → Option (List ℕ)
+uncounted_with word operand =
     if bytes_eq word (codes "until") then Some (until_sentence operand)
     else if bytes_eq word (codes "wait") then Some (wait_sentence operand)
     else None
+
+abbrev pub uncounted : (word : List ℕ) → (operands : List (List ℕ)) → Option (List ℕ)
+uncounted word [] = uncounted_alone word
+uncounted word (operand ∷ []) = uncounted_with word operand
 uncounted word (operand ∷ other ∷ more) = None
 
 -- A CPU that the machine hasn't.

@@ -1,5 +1,5 @@
 //! Lines that do less than they seem to.
-ghost use Rattle.cmwq_remarks.specs.Traps.{count_sentence, cpu_form, cpu_sentence, early_words, first_early, goes_on_for, has_few_steps, is_cpu, is_early, left_by, left_by_actor, left_by_actors, line_cost, quiet_sentence, steps_sentence, uncounted, until_sentence, wait_sentence, wants_cpu};
+ghost use Rattle.cmwq_remarks.specs.Traps.{count_sentence, cpu_form, cpu_sentence, early_words, first_early, goes_on_for, has_few_steps, is_cpu, is_early, left_by, left_by_actor, left_by_actors, line_cost, quiet_sentence, steps_sentence, uncounted, uncounted_alone, uncounted_with, until_sentence, wait_sentence, wants_cpu};
 ghost use Rattle.cmwq_scan.specs.Words.{words_in};
 ghost use Rattle.std.specs.Fmt.{decimal};
 ghost use Rattle.std.specs.Prelude.{◌≡◌, ◌<◌, ◌++◌, IfOk, IfSome, Some, length, option_map};
@@ -22,10 +22,32 @@ pub(crate) fn uncounted(
     ensures { IfOk result (λ said. option_map (λ said. said.items) said ≡ uncounted word.now (words_in operands.now)) }
 {
     match operands {
-        [] if is_word(word, b"quiet") => Ok(Some(quiet_sentence(alloc)?)),
-        [operand] if is_word(word, b"until") => Ok(Some(until_sentence(alloc, operand.bytes())?)),
-        [operand] if is_word(word, b"wait") => Ok(Some(wait_sentence(alloc, operand.bytes())?)),
+        [] => uncounted_alone(alloc, word),
+        [operand] => uncounted_with(alloc, word, operand.bytes()),
         _ => Ok(None),
+    }
+}
+
+/// Returns what is said of a line that has this word alone.
+fn uncounted_alone(alloc: Global, word: &[u8]) -> Result<Option<Vec<u8>>, NoMemory>
+    ensures { IfOk result (λ said. option_map (λ said. said.items) said ≡ uncounted_alone word.now) }
+{
+    if is_word(word, b"quiet") {
+        return Ok(Some(quiet_sentence(alloc)?));
+    }
+    Ok(None)
+}
+
+/// Returns what is said of a line that has this word with one operand.
+fn uncounted_with(alloc: Global, word: &[u8], operand: &[u8]) -> Result<Option<Vec<u8>>, NoMemory>
+    ensures { IfOk result (λ said. option_map (λ said. said.items) said ≡ uncounted_with word.now operand.now) }
+{
+    if is_word(word, b"until") {
+        Ok(Some(until_sentence(alloc, operand)?))
+    } else if is_word(word, b"wait") {
+        Ok(Some(wait_sentence(alloc, operand)?))
+    } else {
+        Ok(None)
     }
 }
 
@@ -58,11 +80,9 @@ fn wait_sentence(alloc: Global, flush: &[u8]) -> Result<Vec<u8>, NoMemory>
 fn count_sentence(alloc: Global, form: &[u8], goal: &[u8]) -> Result<Vec<u8>, NoMemory>
     ensures { IfOk result (λ said. said.items ≡ count_sentence form.now goal.now) }
 {
-    let mut said = Vec::from_slice(alloc, b"without a count it makes at most one move; write ")?;
-    said.extend_from_slice(form)?;
-    said.extend_from_slice(b" * 100 to continue until ")?;
-    said.extend_from_slice(goal)?;
-    Ok(said)
+    let end = joined(alloc, b" * 100 to continue until ", goal, b"")?;
+    let front = b"without a count it makes at most one move; write ";
+    joined(alloc, front, form, &end)
 }
 
 /// Returns these bytes one behind the other.
@@ -113,13 +133,11 @@ pub(crate) fn cpu_sentence(
     ensures { IfOk result (λ said. said.items ≡ cpu_sentence cpus word.now cpu.now) }
 {
     let form = cpu_form(alloc, word)?;
-    let mut said = Vec::from_slice(alloc, b"the run refuses its CPU; cpus is ")?;
-    said.extend_from_slice(Buffer::new().format(cpus).as_bytes())?;
-    said.extend_from_slice(b" and CPUs count from 0, so there is no CPU ")?;
-    said.extend_from_slice(cpu)?;
-    said.extend_from_slice(b": ")?;
-    said.extend_from_slice(&form)?;
-    Ok(said)
+    let missing = joined(alloc, cpu, b": ", &form)?;
+    let mut buffer = Buffer::new();
+    let there = b" and CPUs count from 0, so there is no CPU ";
+    let end = joined(alloc, buffer.format(cpus).as_bytes(), there, &missing)?;
+    joined(alloc, b"the run refuses its CPU; cpus is ", &end, b"")
 }
 
 /// Returns how a line of this word is written, which has a CPU.

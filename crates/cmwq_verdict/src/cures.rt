@@ -126,8 +126,21 @@ fn bad_word_cure(
 fn kernel_cure(alloc: Global, next: Next, word: &[u8]) -> Result<Option<Vec<u8>>, NoMemory>
     ensures { IfOk result (λ words. option_map (λ words. words.items) words ≡ kernel_cure next word.now) }
 {
-    match kernel_form(alloc, next, word)? {
-        Some(form) => Ok(Some(written_words(alloc, call_name(word), &form)?)),
+    let form = kernel_form(alloc, next, word)?;
+    written_if(alloc, call_name(word), form)
+}
+
+/// Returns the words that say how a kernel's word is written, if something stands for it.
+fn written_if(
+    alloc: Global,
+    name: &[u8],
+    form: Option<Vec<u8>>,
+) -> Result<Option<Vec<u8>>, NoMemory>
+    ensures { IfOk result (λ words. option_map (λ words. words.items) words
+        ≡ option_map (λ form. written_words name.now form) (option_map (λ form. form.items) form)) }
+{
+    match form {
+        Some(form) => Ok(Some(written_words(alloc, name, &form)?)),
         None => Ok(None),
     }
 }
@@ -252,11 +265,10 @@ fn push_name<'t>(
 fn bodiless_words(alloc: Global, work: &[u8]) -> Result<Vec<u8>, NoMemory>
     ensures { IfOk result (λ words. words.items ≡ bodiless_words work.now) }
 {
+    let mut end = Vec::from_slice(alloc, work)?;
+    end.extend_from_slice(b", its operations and finish stand before the actors")?;
     let mut words = Vec::from_slice(alloc, b"work ")?;
-    words.extend_from_slice(work)?;
-    words.extend_from_slice(b" has no body: body ")?;
-    words.extend_from_slice(work)?;
-    words.extend_from_slice(b", its operations and finish stand before the actors")?;
+    push_between(&mut words, work, b" has no body: body ", &end)?;
     Ok(words)
 }
 
