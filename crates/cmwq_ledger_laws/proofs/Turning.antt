@@ -19,7 +19,7 @@ use Rattle.cmwq_table.specs.Table.{table}
 use Rattle.cmwq_table.specs.declared.state.Pending.{Pending}
 use Rattle.cmwq_table.specs.declared.state.Running.{Running}
 use Rattle.cmwq_table.specs.Changes.{Acts, Effect, Fills, Sets, Turn}
-use Rattle.cmwq_table.specs.Changes as changes
+use Rattle.cmwq_table.specs.Changes as kinds
 use Rattle.cmwq_table.specs.Told.{cancelled_by, is_start, requested_by, started_by, told_work, work_if}
 use Rattle.cmwq_table.proofs.Doings.{table-does}
 
@@ -211,9 +211,9 @@ module _ (S : ScenarioContents) (s : State) where
   effect-turns i t r setting long (Effect.gives u w took put f told shallow turn answer) =
       as-told _ None (work_if took w) (work_if put w) _ _ _ (ap (told_work is_start) answer.plain) answer.takes answer.puts (moved-on u _ refl (turned s u w took put setting long refl turn))
 
-  does-turn : (i : Instr) (t : State) (r : Reply) → IsSetting S → length s.pending ≡ length S.works → changes.Does S s i t r → Does s i (t, r)
-  does-turn i t r setting long (changes.Does.refused why) = Turns.stays (itself s)
-  does-turn i t r setting long (changes.Does.done u told spent fits effect) = moved-on u _ refl (effect-turns i u told setting long effect)
+  does-turn : (i : Instr) (t : State) (r : Reply) → IsSetting S → length s.pending ≡ length S.works → kinds.Does S s i t r → Does s i (t, r)
+  does-turn i t r setting long (kinds.Does.refused why) = Turns.stays (itself s)
+  does-turn i t r setting long (kinds.Does.done u told spent fits effect) = moved-on u _ refl (effect-turns i u told setting long effect)
 
 pub table-turns : (S : ScenarioContents) (s : State) (i : Instr) → IsSetting S → length s.pending ≡ length S.works → Does s i (table S s i)
 table-turns S s i setting long = does-turn S s i (table S s i).0 (table S s i).1 setting long (table-does S s i)

@@ -1,4 +1,4 @@
-use Rattle.std.proofs.Common.{None, Some, ◌++◌, length}
+use Rattle.std.proofs.Common.{None, Some, ◌++◌}
 use Rattle.std.specs.Fmt.{HasWritten, IsPlainFormatter}
 use Rattle.cmwq_blame.specs.Blame.{waited}
 use Rattle.cmwq_times.specs.TimesText.{rows_below, whom_row_if}
