@@ -1,3 +1,4 @@
+mod CureLemmas
 mod FrontLemmas
 mod ListLemmas
 mod PlaceLemmas

@@ -1,6 +1,6 @@
 -- What is said of a fault beside its reason: of C's comments, of a kernel's words, of an operand that is missing, and of a work that has no body.
 -- The sentences are this project's own.
-use Rattle.std.specs.Prelude.{ℕ, Bool, true, false, ◌||◌, ◌&&◌, not, List, [], ◌∷◌, ◌++◌, codes, length, take, drop, Option, None, Some, is_some, option_map, slice_get, ◌==◌, ◌+◌, if◌then◌else◌}
+use Rattle.std.specs.Prelude.{ℕ, Bool, true, false, ◌||◌, ◌&&◌, not, List, [], ◌∷◌, ◌++◌, codes, length, take, drop, Option, None, Some, option_map, slice_get, ◌==◌, ◌+◌, if◌then◌else◌}
 use Rattle.std.specs.List.{list_any}
 use Rattle.std.specs.Str.{bytes_eq}
 use Rattle.cmwq_types.specs.First.{or_else}

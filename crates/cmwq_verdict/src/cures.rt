@@ -11,7 +11,7 @@ ghost use Rattle.std.specs.Prelude.{◌≡◌, ◌≢◌, ◌++◌, IfOk, None, 
 use crate::finding::{Finding, column_of_place, line_before, lines_before, text_before};
 use crate::forms::{call_name, form_at, kernel_form};
 use crate::places::{FaultPlace, rest_from};
-use crate::writing::push_between;
+use crate::writing::{joined, push_between};
 use cmwq_fitting::{TextFault, front_of};
 use cmwq_grammar::{Next, Why};
 use cmwq_scan::{Token, Tokens, is_word, next_line, next_word, read_tokens, worded_part};
@@ -265,11 +265,14 @@ fn push_name<'t>(
 fn bodiless_words(alloc: Global, work: &[u8]) -> Result<Vec<u8>, NoMemory>
     ensures { IfOk result (λ words. words.items ≡ bodiless_words work.now) }
 {
-    let mut end = Vec::from_slice(alloc, work)?;
-    end.extend_from_slice(b", its operations and finish stand before the actors")?;
-    let mut words = Vec::from_slice(alloc, b"work ")?;
-    push_between(&mut words, work, b" has no body: body ", &end)?;
-    Ok(words)
+    let end = joined(
+        alloc,
+        work,
+        b", its operations and finish stand before the actors",
+    )?;
+    let named = joined(alloc, b" has no body: body ", &end)?;
+    let about = joined(alloc, work, &named)?;
+    joined(alloc, b"work ", &about)
 }
 
 /// Returns which operand is missing behind this front of a line.
@@ -278,9 +281,20 @@ fn missing_cure(alloc: Global, next: Next, line: &[u8]) -> Result<Option<Vec<u8>
 {
     let mut words = Tokens::new(alloc);
     read_tokens(&mut words, line)?;
-    match words.first() {
-        Some(first) => missing_behind(alloc, next, first.bytes(), words.len()),
-        None => Ok(None),
+    missing_among(alloc, next, &words)
+}
+
+/// Returns which operand is missing in a line that has these words.
+fn missing_among(
+    alloc: Global,
+    next: Next,
+    words: &[Token<'_>],
+) -> Result<Option<Vec<u8>>, NoMemory>
+    ensures { IfOk result (λ said. option_map (λ said. said.items) said ≡ missing_cure next (words_in words.now)) }
+{
+    match words {
+        [first, ..] => missing_behind(alloc, next, first.bytes(), words.len()),
+        [] => Ok(None),
     }
 }
 
@@ -315,12 +329,10 @@ fn missing_in(alloc: Global, count: usize, form: Vec<u8>) -> Result<Vec<u8>, NoM
 fn missing_operand(alloc: Global, form: &[u8], operand: &[u8]) -> Result<Vec<u8>, NoMemory>
     ensures { IfOk result (λ words. words.items ≡ missing_words form.now (Some operand.now)) }
 {
-    let mut words = Vec::from_slice(alloc, form)?;
-    words.extend_from_slice(b": ")?;
-    words.extend_from_slice(article_of(operand))?;
-    words.extend_from_slice(operand)?;
-    words.extend_from_slice(b" is missing")?;
-    Ok(words)
+    let end = joined(alloc, operand, b" is missing")?;
+    let named = joined(alloc, article_of(operand), &end)?;
+    let behind = joined(alloc, b": ", &named)?;
+    joined(alloc, form, &behind)
 }
 
 /// Returns that in a line that is written so the number of times is missing.
