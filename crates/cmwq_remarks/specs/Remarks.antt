@@ -70,10 +70,13 @@ abbrev pub spent_count : List Reply → ℕ
 spent_count [] = 0
 spent_count (answer ∷ answers) = (if is_spent answer then 1 else 0) + spent_count answers
 
+abbrev pub steps_words : (steps : ℕ) → List ℕ
+steps_words steps = decimal steps ++ codes ", and a greater number lets the run continue\n"
+
 abbrev pub spent_words : (count steps : ℕ) → List ℕ
 spent_words count steps =
     counted count (codes " instruction was refused as Spent; steps is ") (codes " instructions were refused as Spent; steps is ")
-    ++ decimal steps ++ codes ", and a greater number lets the run continue\n"
+    ++ steps_words steps
 
 abbrev pub spent_line : (count steps : ℕ) → List ℕ
 spent_line count steps = if count == 0 then [] else spent_words count steps

@@ -54,10 +54,14 @@ wants_cpu word more = bytes_eq word (codes "queue") || ((bytes_eq word (codes "d
 abbrev pub cpu_form : (word : List ℕ) → List ℕ
 cpu_form word = word ++ (if bytes_eq word (codes "queue") then codes " WORK CPU" else codes " WORK CPU N")
 
+abbrev pub missing_cpu : (word cpu : List ℕ) → List ℕ
+missing_cpu word cpu = cpu ++ (codes ": " ++ cpu_form word)
+
+abbrev pub cpu_counts : (cpus : ℕ) → (word cpu : List ℕ) → List ℕ
+cpu_counts cpus word cpu = decimal cpus ++ (codes " and CPUs count from 0, so there is no CPU " ++ missing_cpu word cpu)
+
 abbrev pub cpu_sentence : (cpus : ℕ) → (word cpu : List ℕ) → List ℕ
-cpu_sentence cpus word cpu =
-    codes "the run refuses its CPU; cpus is "
-    ++ (decimal cpus ++ (codes " and CPUs count from 0, so there is no CPU " ++ (cpu ++ (codes ": " ++ cpu_form word))))
+cpu_sentence cpus word cpu = codes "the run refuses its CPU; cpus is " ++ cpu_counts cpus word cpu
 
 -- Steps: as many instructions are accepted, questions aside.
 

@@ -1,5 +1,5 @@
 //! What should be known of a run that ended well.
-ghost use Rattle.cmwq_remarks.specs.Remarks.{AreRemarks, counted, early_text, early_told, left_count, left_line, lets_move, pending_count, pending_line, pending_told, refused_line, refused_text, remarks_of, run_remarks, spent_line, spent_told, spent_words, stops_by_itself, tells_pending, tells_refusals};
+ghost use Rattle.cmwq_remarks.specs.Remarks.{AreRemarks, counted, early_text, early_told, left_count, left_line, lets_move, pending_count, pending_line, pending_told, refused_line, refused_text, remarks_of, run_remarks, spent_line, spent_told, spent_words, steps_words, stops_by_itself, tells_pending, tells_refusals};
 ghost use Rattle.cmwq_remarks.specs.Traps.{first_early};
 ghost use Rattle.cmwq_table.specs.State.{start};
 ghost use Rattle.cmwq_types.specs.Faults.{IsValid};
@@ -50,10 +50,23 @@ fn remarks_on<M: Machine>(
         return Ok(Vec::new(alloc));
     }
     let scenario = Arc::new(alloc, scenario)?;
-    let mut scout = M::begin(alloc, Arc::clone(&scenario)?)?;
-    let early = first_early(&mut scout, &scenario.actors[0].lines);
+    let early = early_in::<M>(alloc, Arc::clone(&scenario)?, &scenario.actors[0].lines)?;
     let machine = M::begin(alloc, Arc::clone(&scenario)?)?;
     run_remarks(alloc, task, text, &scenario.actors[0], early, machine)
+}
+
+/// Returns which of the lines ends too early, where they are carried out from the scenario's start.
+fn early_in<M: Machine>(
+    alloc: Global,
+    scenario: Arc<Scenario>,
+    lines: &[Line],
+) -> Result<Option<(usize, Instr)>, NoMemory>
+    requires { IsValid scenario.value }
+    ensures early { IfOk result (λ early. early ≡ first_early scenario.value (start scenario.value) 0 lines.now) }
+    ensures within { IfOk result (λ early. IfSome early (λ early. early.0 < length lines.now)) }
+{
+    let mut machine = M::begin(alloc, scenario)?;
+    Ok(first_early(&mut machine, lines))
 }
 
 /// The same of a run of the scenario's one actor, on a machine at its start, where this line ends too early.
@@ -125,6 +138,13 @@ fn push_spent_words(told: &mut String, count: u32, steps: u32) -> Result<(), NoM
         " instruction was refused as Spent; steps is ",
         " instructions were refused as Spent; steps is ",
     )?;
+    push_steps(told, steps)
+}
+
+/// Appends how many steps there are, and what more of them are good for.
+fn push_steps(told: &mut String, steps: u32) -> Result<(), NoMemory>
+    ensures { OnOk result (string_bytes told.new ≡ string_bytes told.old ++ steps_words steps) }
+{
     told.push_str(Buffer::new().format(steps))?;
     told.push_str(", and a greater number lets the run continue\n")?;
     Ok(())

@@ -1,5 +1,5 @@
 //! Lines that do less than they seem to.
-ghost use Rattle.cmwq_remarks.specs.Traps.{count_sentence, cpu_form, cpu_sentence, early_words, first_early, goes_on_for, has_few_steps, is_cpu, is_early, left_by, left_by_actor, left_by_actors, line_cost, quiet_sentence, steps_sentence, uncounted, uncounted_alone, uncounted_with, until_sentence, wait_sentence, wants_cpu};
+ghost use Rattle.cmwq_remarks.specs.Traps.{count_sentence, cpu_counts, cpu_form, cpu_sentence, early_words, first_early, goes_on_for, has_few_steps, is_cpu, is_early, left_by, left_by_actor, left_by_actors, line_cost, missing_cpu, quiet_sentence, steps_sentence, uncounted, uncounted_alone, uncounted_with, until_sentence, wait_sentence, wants_cpu};
 ghost use Rattle.cmwq_scan.specs.Words.{words_in};
 ghost use Rattle.std.specs.Fmt.{decimal};
 ghost use Rattle.std.specs.Prelude.{◌≡◌, ◌<◌, ◌++◌, IfOk, IfSome, Some, length, option_map};
@@ -62,8 +62,8 @@ fn quiet_sentence(alloc: Global) -> Result<Vec<u8>, NoMemory>
 fn until_sentence(alloc: Global, time: &[u8]) -> Result<Vec<u8>, NoMemory>
     ensures { IfOk result (λ said. said.items ≡ until_sentence time.now) }
 {
-    let form = joined(alloc, b"until ", time, b"")?;
-    let goal = joined(alloc, b"tick ", time, b"")?;
+    let form = paired(alloc, b"until ", time)?;
+    let goal = paired(alloc, b"tick ", time)?;
     count_sentence(alloc, &form, &goal)
 }
 
@@ -71,7 +71,7 @@ fn until_sentence(alloc: Global, time: &[u8]) -> Result<Vec<u8>, NoMemory>
 fn wait_sentence(alloc: Global, flush: &[u8]) -> Result<Vec<u8>, NoMemory>
     ensures { IfOk result (λ said. said.items ≡ wait_sentence flush.now) }
 {
-    let form = joined(alloc, b"wait ", flush, b"")?;
+    let form = paired(alloc, b"wait ", flush)?;
     let goal = joined(alloc, b"flush ", flush, b" is done")?;
     count_sentence(alloc, &form, &goal)
 }
@@ -80,9 +80,18 @@ fn wait_sentence(alloc: Global, flush: &[u8]) -> Result<Vec<u8>, NoMemory>
 fn count_sentence(alloc: Global, form: &[u8], goal: &[u8]) -> Result<Vec<u8>, NoMemory>
     ensures { IfOk result (λ said. said.items ≡ count_sentence form.now goal.now) }
 {
-    let end = joined(alloc, b" * 100 to continue until ", goal, b"")?;
+    let end = paired(alloc, b" * 100 to continue until ", goal)?;
     let front = b"without a count it makes at most one move; write ";
     joined(alloc, front, form, &end)
+}
+
+/// Returns these bytes, the end behind the front.
+fn paired(alloc: Global, front: &[u8], end: &[u8]) -> Result<Vec<u8>, NoMemory>
+    ensures { IfOk result (λ whole. whole.items ≡ front.now ++ end.now) }
+{
+    let mut whole = Vec::from_slice(alloc, front)?;
+    whole.extend_from_slice(end)?;
+    Ok(whole)
 }
 
 /// Returns these bytes one behind the other.
@@ -132,12 +141,26 @@ pub(crate) fn cpu_sentence(
 ) -> Result<Vec<u8>, NoMemory>
     ensures { IfOk result (λ said. said.items ≡ cpu_sentence cpus word.now cpu.now) }
 {
-    let form = cpu_form(alloc, word)?;
-    let missing = joined(alloc, cpu, b": ", &form)?;
+    let end = cpu_counts(alloc, cpus, word, cpu)?;
+    paired(alloc, b"the run refuses its CPU; cpus is ", &end)
+}
+
+/// Returns how many CPUs there are, and which one is missing.
+fn cpu_counts(alloc: Global, cpus: u8, word: &[u8], cpu: &[u8]) -> Result<Vec<u8>, NoMemory>
+    ensures { IfOk result (λ said. said.items ≡ cpu_counts cpus word.now cpu.now) }
+{
+    let missing = missing_cpu(alloc, word, cpu)?;
     let mut buffer = Buffer::new();
     let there = b" and CPUs count from 0, so there is no CPU ";
-    let end = joined(alloc, buffer.format(cpus).as_bytes(), there, &missing)?;
-    joined(alloc, b"the run refuses its CPU; cpus is ", &end, b"")
+    joined(alloc, buffer.format(cpus).as_bytes(), there, &missing)
+}
+
+/// Returns the number of the CPU that is missing, and how a line of this word is written.
+fn missing_cpu(alloc: Global, word: &[u8], cpu: &[u8]) -> Result<Vec<u8>, NoMemory>
+    ensures { IfOk result (λ said. said.items ≡ missing_cpu word.now cpu.now) }
+{
+    let form = cpu_form(alloc, word)?;
+    joined(alloc, cpu, b": ", &form)
 }
 
 /// Returns how a line of this word is written, which has a CPU.
@@ -258,15 +281,15 @@ pub(crate) fn early_words(alloc: Global, instr: Instr) -> Result<Vec<u8>, NoMemo
     match instr {
         Instr::Until(time) => {
             let said = until_sentence(alloc, buffer.format(time).as_bytes())?;
-            joined(alloc, b"until: ", &said, b"")
+            paired(alloc, b"until: ", &said)
         }
         Instr::Wait(flush) => {
             let said = wait_sentence(alloc, buffer.format(flush).as_bytes())?;
-            joined(alloc, b"wait: ", &said, b"")
+            paired(alloc, b"wait: ", &said)
         }
         Instr::Quiet => {
             let said = quiet_sentence(alloc)?;
-            joined(alloc, b"quiet: ", &said, b"")
+            paired(alloc, b"quiet: ", &said)
         }
         _ => Ok(Vec::new(alloc)),
     }
