@@ -22,7 +22,7 @@ use Rattle.cmwq_outcome.specs.Checking.{HasTold, status_of_judged}
 use Rattle.cmwq_outcome.specs.FaultsTold.{Prints}
 use Rattle.cmwq_outcome.specs.Starting.{HasWrittenFirst}
 use Rattle.cmwq_outcome.specs.declared.file_verdict.Judged.{Judged}
-use Rattle.cmwq_play.specs.Commands.{Answers, Writes}
+use Rattle.cmwq_play.specs.Commands.{Answers}
 use Rattle.cmwq_play.specs.PlayTexts.{IsFaultOf, IsOutput, IsRunFault, IsTextFault}
 use Rattle.clap.specs.Words.{Text}
 use Rattle.cmwq_request.specs.Request.{request_words}
@@ -32,7 +32,6 @@ use Rattle.cmwq_settle.specs.Settled.{IsSettledIf, IsUnsettledIf}
 use Rattle.cmwq_streams.specs.Sending.{IsSendError}
 use Rattle.cmwq_streams.specs.declared.error.PlayError.{PlayError}
 use Rattle.cmwq_streams.specs.declared.error.PlayError.TheVariants.{Actors, Asm as TextFault, Full, NoMemory, Read, Tickets, TooLong, Write}
-use Rattle.cmwq_tasks.specs.declared.task.Task.{Task}
 use Rattle.cmwq_verdict.specs.declared.looks.Look.{Look}
 
 -- what a file of this path has, where that is known
