@@ -26,7 +26,7 @@ pub(crate) fn names_line(
 }
 
 /// Returns the line with the names, this one first.
-#[tactic(auto, using(crate::proofs::NameLemmas::taken, crate::proofs::NameLemmas::dropped))]
+#[tactic(auto, using(crate::proofs::NameLemmas::taken, crate::proofs::NameLemmas::dropped, crate::proofs::NameLemmas::named))]
 fn called_by(
     alloc: Global,
     file: &str,
