@@ -30,6 +30,7 @@ sys.path.insert(0, os.path.dirname(os.path.realpath(__file__)))
 import hostile
 import mutations
 import reports
+import telling
 
 TURNS = 4500
 SECONDS, MEGABYTES = 10, 200
@@ -242,8 +243,8 @@ def try_explore(bench, rng, listed):
     if first.status == 5:
         bench.write("found.cmwq", first.output)
         steps = re.findall(rb"^# \d+ (?:\(machine\)|\w+) (.*)\n((?:#   .*\n)?)", first.output.partition(b"\n# ")[2], re.M)
-        told = bench.run("run", "--tell", "found.cmwq")
-        bench.want(re.findall(rb"^# \d+ (.*)\n((?:[^#].*\n)?)", told.output, re.M) == [(instr, line[4:]) for instr, line in steps], "what was found has other steps than its comments tell")
+        tell = bench.run("run", "--tell", "found.cmwq")
+        bench.want(telling.instructions(tell.output.decode()) == [(instr.decode(), line[4:].decode()) for instr, line in steps], "what was found has other steps than its comments tell")
         bench.want(bench.run("list", "found.cmwq") == Ended(0, unmarked(first.output), b""), "what was found isn't a listing")
     elif b" in all " in first.output:
         states = int(re.search(rb" in all (\d+) states", first.output)[1])

@@ -20,6 +20,9 @@ import subprocess
 import sys
 import tempfile
 
+sys.dont_write_bytecode = True
+import telling
+
 TOP = os.path.dirname(os.path.dirname(os.path.realpath(__file__)))
 
 
@@ -145,12 +148,12 @@ def found_faults(program, text, found):
     and line are those of its run."""
     content, actors = bytes_of(found).decode(), re.findall(r"^actor (\w+)", bytes_of(text).decode(), re.M)
     steps = re.findall(r"^# (\d+) (\(machine\)|\w+) (.*)\n((?:#   .*\n)?)", content.partition("\n# ")[2], re.M)
-    told = re.findall(r"^# \d+ (.*)\n((?:[^#].*\n)?)", (said(program, "run", "--tell", found) or b"").decode(), re.M)
+    instructions = telling.instructions((said(program, "run", "--tell", found) or b"").decode())
     checks = {
         "its listing": said(program, "list", found) == unmarked(content.encode()),
         "its run": said(program, "run", found) == "".join(line.removeprefix("#   ") for *_, line in steps).encode(),
-        "a step": [(instr, line.removeprefix("#   ")) for *_, instr, line in steps] == told and told,
-        "a step's number": [int(number) for number, *_ in steps] == list(range(1, len(told) + 1)),
+        "a step": [(instr, line.removeprefix("#   ")) for *_, instr, line in steps] == instructions and instructions,
+        "a step's number": [int(number) for number, *_ in steps] == list(range(1, len(instructions) + 1)),
         "who takes a step": {who for _, who, *_ in steps} <= {"(machine)", *actors},
     }
     return [f"{os.path.relpath(found, TOP)}: {what} is not as it should be" for what, is_well in checks.items() if not is_well]
@@ -204,22 +207,22 @@ def instrs_of(listing):
     return [instr for instr, _star, times in parts for _turn in range(int(times or 1))]
 
 
-def times_of(told):
-    """The time behind each instruction of a run that is told."""
+def times_of(text):
+    """The time after each instruction of a run that is told. A line `# K to L` is of several, in which no time passes."""
     times = []
-    for line in told.splitlines():
-        if re.match(r"# \d", line):
-            times.append(times[-1] if times else 0)
+    for line in text.splitlines():
+        if at := re.match(r"# (\d+) (?:to (\d+) )?", line):
+            times += [times[-1] if times else 0] * (int(at[2] or at[1]) - int(at[1]) + 1)
         elif line.startswith("#   now "):
             times[-1] = int(line.removeprefix("#   now "))
     return times
 
 
-def entry_faults(listing, printed, told, history):
+def entry_faults(listing, printed, tell, history):
     """What is wrong with a history of one caller: each entry has its ticket, its caller, its instruction and its reply. Of the replies
     that have a line the lines are what is printed, each at its time; one with no line is `Queued` for what queues, and else `Done`."""
     lines, faults = [], []
-    for number, (instr, entry, now) in enumerate(itertools.zip_longest(instrs_of(listing), history.splitlines(), times_of(told))):
+    for number, (instr, entry, now) in enumerate(itertools.zip_longest(instrs_of(listing), history.splitlines(), times_of(tell))):
         front, _colon, reply = (entry or "").partition(": ")
         word, is_silent = (instr or "").partition(" ")[0], reply in ("Queued", "Done")
         good = f"{now} " == reply[:len(f"{now} ")] if not is_silent else reply == ("Queued" if word in ("queue", "delay", "mod") else "Done")
@@ -231,10 +234,10 @@ def entry_faults(listing, printed, told, history):
 def history_faults(calls, program, text):
     """What is wrong with a scenario's history on an engine."""
     listing, printed = said(program, "list", text).decode(), bytes_of(f"{text.removesuffix('.cmwq')}.out").decode()
-    told = (said(program, "run", "--tell", text) or b"").decode()
+    tell = (said(program, "run", "--tell", text) or b"").decode()
     with open(text, "rb") as it:
         ran = subprocess.run([calls, "history"], stdin=it, stdout=subprocess.PIPE, stderr=subprocess.STDOUT, timeout=120)
-    return [f"{os.path.relpath(text, TOP)}: {fault} isn't as it should be" for fault in entry_faults(listing, printed, told, ran.stdout.decode())]
+    return [f"{os.path.relpath(text, TOP)}: {fault} isn't as it should be" for fault in entry_faults(listing, printed, tell, ran.stdout.decode())]
 
 
 def play_faults(program, text, room):
