@@ -5,8 +5,7 @@
 
 In docs/MAP.md the crates by storeys, from crates.txt and the first paragraph of each crate's root file; in docs/MODEL.md the definitions
 that some public contracts cite, as far as these go, with their files and lines; in docs/PROVED.md what is proved of each crate, from the
-lines `//! Proved: ..` and `//! Not proved: ..` of its root file, or from its entry in docs/PROVED.txt. Each is between two comments. And it follows
-the links of the documents."""
+lines `//! Proved: ..` and `//! Not proved: ..` of its root file. Each is between two comments. And it follows the links of the documents."""
 import glob
 import os
 import pathlib
@@ -152,43 +151,28 @@ def root_file(root, name):
     return pathlib.Path(source).read_text("utf-8")
 
 
-def stored_claims(root):
-    """Returns the entries of docs/PROVED.txt: of each crate its lines."""
-    parts = pathlib.Path(root, "docs/PROVED.txt").read_text("utf-8").split("\n\n")
-    entries = [part.strip().splitlines() for part in parts if not part.startswith("#")]
-    return {name: lines for name, *lines in entries}
-
-
-def claims_of(root, name, stored):
-    """Returns what a crate says that is proved, and that isn't: the lines of its root file, or else its entry."""
-    own = [line[4:] for line in root_file(root, name).splitlines() if line.startswith("//! ") and CLAIM.match(line[4:])]
-    return own or stored.get(name, [])
+def claims_of(root, name):
+    """Returns what a crate's root file says is proved, and isn't."""
+    return [line[4:] for line in root_file(root, name).splitlines() if line.startswith("//! ") and CLAIM.match(line[4:])]
 
 
 def proved_rows(root):
     """The crates, storey by storey, each with what is proved of it."""
-    rows, stored = [], stored_claims(root)
+    rows = []
     for line in pathlib.Path(root, "crates.txt").read_text("utf-8").splitlines():
         if line.startswith("# "):
             rows += ["", f"## {line[2:]}", ""]
         elif line.strip():
             name = line.split(":")[0].split()[0]
-            claims = [f"*{found[1]}:* {found[2]}" for found in map(CLAIM.match, claims_of(root, name, stored)) if found]
+            claims = [f"*{found[1]}:* {found[2]}" for found in map(CLAIM.match, claims_of(root, name))]
             rows.append(f"- `{name}`. {' '.join(claims)}")
     return rows[1:]
 
 
 def claim_faults(root):
-    """The crates without a line on what is proved, those that have it twice, and entries of no crate."""
+    """The crates whose root file has no line on what is proved of it."""
     names = [line.split(":")[0].split()[0] for line in pathlib.Path(root, "crates.txt").read_text("utf-8").splitlines() if line.strip() and line[0] != "#"]
-    stored = stored_claims(root)
-    faults = [f"docs/PROVED.txt: {name} isn't a crate" for name in stored if name not in names]
-    for name in names:
-        own = claims_of(root, name, {})
-        if bool(own) == (name in stored):
-            faults.append(f"{name}: its root file {'and docs/PROVED.txt both say' if own else 'or docs/PROVED.txt should say'} what is proved of it")
-    lines = [(name, line) for name in names for line in claims_of(root, name, stored)]
-    return faults + [f"{name}: {line!r} begins neither with Proved: nor with Not proved:" for name, line in lines if not CLAIM.match(line)]
+    return [f"{name}: its root file should say what is proved of it" for name in names if not claims_of(root, name)]
 
 
 def lost_steps(root):

@@ -1,4 +1,6 @@
 //! The program `cmwq`: words in, status out.
+//!
+//! Proved: the calls of `main` meet what the called functions require. `main` has no contract of its own.
 #![tactic(auto)]
 
 mod meter;

@@ -1,4 +1,7 @@
-//! Actors in threads of their own, over one shared machine.
+//! Callers in threads of their own, over one shared machine.
+//!
+//! Proved: `enact` leaves one history. It interleaves the instructions of the callers, and keeps the order of each caller.
+//! Not proved: that all callers run at the same time.
 #![tactic(auto)]
 
 mod begin;

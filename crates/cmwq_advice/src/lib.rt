@@ -1,4 +1,7 @@
-//! What a person can do about the fault that a command ended with: lines that follow the one that tells it.
+//! Advice: lines after a fault that say what to do about it.
+//!
+//! Proved: `advice`: the lines after a fault follow from what is found in the files.
+//! Not proved: why the system refuses a file, and that a file can be read a second time.
 #![tactic(auto)]
 
 mod advising;

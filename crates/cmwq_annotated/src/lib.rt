@@ -1,5 +1,7 @@
-//! What is written of a run as a scenario's text: a listing whose one actor gives the run's instructions, and notes behind it, as
+//! A run as a scenario's text: a listing whose one caller issues the run's instructions, with notes as
 //! comments.
+//!
+//! Proved: comments after a listing change nothing of its scenario. A scenario with one given caller is as defined.
 #![tactic(auto)]
 
 mod acting;

@@ -1,4 +1,6 @@
-//! The text of a scenario: its listing, and what a text says.
+//! The assembler: it reads the text of a scenario.
+//!
+//! Proved: `assemble` gives exactly the scenario that the text spells, or its first fault. A listing that is read again gives the same scenario.
 #![tactic(auto)]
 
 mod actors;

@@ -1,4 +1,6 @@
-//! For whom the works of a run waited, counted tick by tick.
+//! For which work items the others waited, counted tick by tick.
+//!
+//! Proved: `Blame::record`: the counts of who waited for whom are as defined, tick by tick.
 #![tactic(auto)]
 
 mod blame;

@@ -1,4 +1,6 @@
-//! The law that a work burns just as many ticks as its body says.
+//! The law that an instance of a work item burns as many ticks as its body says.
+//!
+//! Proved: the law that an instance burns as many ticks as its body says.
 #![tactic(auto)]
 
 pub mod examples;

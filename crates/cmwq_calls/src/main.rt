@@ -1,14 +1,13 @@
-//! The program `cmwq_calls`, for the gate: it makes the library call that its one word names, prints what the call answers and what its
-//! caller holds before and after, and makes the call again where it answered that memory ran out. The text of a scenario comes from
-//! standard input.
+//! The program `cmwq_calls`, for the gate. It makes the library call that its one word names, prints
+//! the result and what the caller holds before and after, and repeats the call if it ran out of memory.
+//! The text of a scenario comes from standard input. `gate/refused_calls.py` refuses each call's 1st,
+//! 2nd, .. allocation, and compares the output with that of a run with enough memory. If an allocation
+//! outside the call fails, the program ends with `no memory` and its status. The word `history` names
+//! no call: it issues the scenario's instructions on an engine, and prints the history, one line per
+//! entry, `TICKET CALLER INSTRUCTION: REPLY`. If the simple machine replies or shows anything else, a
+//! line says so. `gate/lessons.py` compares all that with what each lesson says.
 //!
-//! `gate/refused_calls.py` has each call's 1st, 2nd, .. allocation refused in turn, and compares what is printed with what is printed
-//! where memory is ample. Memory that is refused outside of the call ends the program with `no memory` and the status of that fault.
-//!
-//! The word `history` names no call: the scenario's instructions are issued on an engine, and the history is printed, a line an entry,
-//! `TICKET CALLER INSTRUCTION: REPLY`, with the instruction as a listing spells it, and the line of the reply, or `Queued` or `Done`
-//! where it has none. Where the machine's other body replies or shows anything else after an instruction, a line says so.
-//! `gate/lessons.py` compares all that with what each lesson says.
+//! Proved: nothing. It is a program of the gate that makes library calls.
 #![tactic(auto)]
 
 mod acting;

@@ -1,4 +1,7 @@
-//! How what the words ask is carried out on files.
+//! Commands on files: how a request is carried out.
+//!
+//! Proved: `carry_out`: the words do to both streams what is defined.
+//! Not proved: real files and terminals, and what `asm` and `new` write into files.
 #![tactic(auto)]
 
 mod advising;

@@ -1,6 +1,7 @@
-//! Worked examples of what the program's words carry out, as theorems over the definitions: what each request puts where, and with which
-//! status it ends; what some orders of a few actors' lines come to, and what `explore` writes of them. The functions do nothing. No other
-//! crate stands on this one.
+//! Worked examples of commands: what each request writes, and its exit status; and what `explore`
+//! writes for a few callers. The functions do nothing. No other crate depends on this one.
+//!
+//! Proved: worked examples of command lines, of interleavings and of `explore`.
 #![tactic(auto)]
 
 pub mod exploring;

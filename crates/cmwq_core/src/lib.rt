@@ -1,5 +1,8 @@
-//! `Core`: the instruction table over linked lists, timers, end times and counters. Works are scanned only where a queue's flush is judged,
-//! and for a look.
+//! `Core`: the fast machine, over linked lists, timers, end times and counters. It scans work items
+//! only for a queue's flush and for a view.
+//!
+//! Proved: lists, timers and counts are such a structure too. `Core` is the machine over them, and the program's machine.
+//! Not proved: its speed.
 #![tactic(auto)]
 
 mod beginning;

@@ -1,4 +1,7 @@
-//! A debugger over a list of instructions: forwards and back, with breaks, and a dump of the state anywhere.
+//! The debugger: it goes forwards and backwards through a list of instructions, stops at breaks, and
+//! dumps the state.
+//!
+//! Proved: at position K everything is reported of the table's state after K instructions. So are the checkpoints from which it goes back.
 #![tactic(auto)]
 
 mod break_lines;

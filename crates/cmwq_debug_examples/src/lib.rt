@@ -1,5 +1,7 @@
-//! Worked examples of dumps and of debugging, as theorems over the definitions: each function's contract says what
-//! one dump reads, or what is said to some commands. No other crate stands on this one.
+//! Worked examples of dumps and of debugging. Each function's contract gives one dump, or the answers
+//! to some commands. No other crate depends on this one.
+//!
+//! Proved: worked examples of dumps and sessions.
 #![tactic(auto)]
 
 ghost use Rattle.cmwq_debug.specs.Checkpoints.{entered, left_out, no_checkpoints, passed, turn_for};

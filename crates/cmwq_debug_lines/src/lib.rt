@@ -1,4 +1,6 @@
-//! Command lines of the debugger: what each tells it, and what is said to it.
+//! The debugger's command lines: how they are read and answered.
+//!
+//! Proved: each command line does what its definition says, and prints its lines.
 #![tactic(auto)]
 
 mod commands_read;

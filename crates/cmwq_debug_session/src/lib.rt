@@ -1,4 +1,6 @@
-//! The debugger over a reader of commands and a writer.
+//! `debug`: the debugger over a reader of commands and a writer.
+//!
+//! Proved: `debug` writes exactly the defined bytes, or returns the fault.
 #![tactic(auto)]
 
 mod debugging;

@@ -1,4 +1,6 @@
-//! What a scenario's text has told so far, and what a line says against it.
+//! The scenario that the lines so far declare, and the fault of a line that contradicts it.
+//!
+//! Proved: each line adds to the scenario what the definition says, or has the fault that the definition gives.
 #![tactic(auto)]
 
 mod actor_lines;

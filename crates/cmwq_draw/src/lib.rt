@@ -1,5 +1,6 @@
-//! `draw`: from a scenario's text to a picture of its run, as text or as SVG, with what `why` says of a work where a rectangle begins that shows
-//! it waiting.
+//! `draw`: from a scenario's text to a picture of its run, as text or as SVG.
+//!
+//! Proved: `draw` writes exactly the defined bytes, or returns the fault. The hints of a picture are the lines of `why`.
 #![tactic(auto)]
 
 mod drawing_run;

@@ -1,4 +1,6 @@
-//! What may be asked of a drawing of a run. Types alone.
+//! Options of a drawing. Types alone.
+//!
+//! Proved: nothing. It has types only: the options of a picture.
 #![tactic(auto)]
 
 mod drawing;

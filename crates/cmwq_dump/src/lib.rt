@@ -1,4 +1,6 @@
-//! The dump text: a machine's state at a glance.
+//! The dump: a machine's state as text.
+//!
+//! Proved: `dump_text` is the text of the machine's state.
 #![tactic(auto)]
 
 mod dump;

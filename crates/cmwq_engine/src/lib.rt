@@ -1,5 +1,7 @@
-//! An engine: a machine of the workqueue emulator, with the history of what was issued on it; and a shared one, behind a
-//! ticket lock.
+//! An engine: a machine with the history of the instructions issued on it; and a shared engine,
+//! protected by a ticket lock.
+//!
+//! Proved: the machine of `Engine` and `Shared` is the table's machine over the history. Each reply is at its position.
 #![tactic(auto)]
 
 mod engine;

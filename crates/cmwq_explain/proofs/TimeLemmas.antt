@@ -16,6 +16,7 @@ use Rattle.cmwq_types.specs.declared.reply.Event.TheVariants as event
 use Rattle.cmwq_types.specs.declared.reply.Refusal.{Refusal}
 use Rattle.cmwq_types.specs.declared.scenario.Op.{Op}
 use Rattle.cmwq_types.specs.declared.scenario.Op.TheVariants as op
+use Rattle.cmwq_types.specs.declared.reply.Reply.{Reply}
 use Rattle.cmwq_table.specs.Counts.{first_due, free_worker, is_deferred, is_rescuer, or_else}
 use Rattle.cmwq_table.specs.Moves.{advance, become_idle, begin_again, carry_out, come_to_end, deferred, finish, first_moving, moved, next_move, onward, queue_from_body, rescued, retire, started, tick, with_depth, with_running, woken, delay_from_body, mod_from_body}
 use Rattle.cmwq_table.specs.State.{State, depth_at, is_disabled, pending_at, running_at, start}
@@ -23,7 +24,7 @@ use Rattle.cmwq_table.specs.Table.{answer, cancelled, delayed, effect, fired_fir
 use Rattle.cmwq_table.specs.declared.state.Pending.{Pending}
 use Rattle.cmwq_table.specs.declared.state.Running.{Running}
 use Rattle.cmwq_table.proofs.RunLemmas.{after_all-append}
-use Rattle.cmwq_table.proofs.Frames.{Frame, table-frame}
+use Rattle.cmwq_table.proofs.Frames.{Frame, IsRefused, table-frame}
 use Rattle.cmwq_explain.specs.Changes.{is_settled}
 
 -- the time stays, or a tick passes where it is settled
@@ -36,15 +37,15 @@ both-none (Some w) moving a b = cc
 both-none None (Some pool) a b = cc
 
 module _ (S : ScenarioContents) (s : State) where
-  framed-passes : (i : Instr) (t : State) → (Frame S s i t) ⊎ (t ≡ s) → Passes S s t.time
-  framed-passes i t (inl frame) = in-time frame.time where
+  framed-passes : (i : Instr) (t : State) (r : Reply) → (Frame S s i t) ⊎ (IsRefused s t r) → Passes S s t.time
+  framed-passes i t r (inl frame) = in-time frame.time where
     in-time : (t.time ≡ s.time) ⊎ ((t.time ≡ s.time + 1) × (first_due S s ≡ None) × (first_moving S s ≡ None)) → Passes S s t.time
     in-time (inl same) = inl same
     in-time (inr passes) = inr (passes.0, both-none (first_due S s) (first_moving S s) passes.1 passes.2)
-  framed-passes i t (inr same) = inl (ap (λ (u : State). u.time) same)
+  framed-passes i t r (inr refused) = inl (ap (λ (u : State). u.time) refused.same)
 
   pub table-passes : (i : Instr) → Passes S s (table S s i).0.time
-  table-passes i = framed-passes i (table S s i).0 (table-frame S s i)
+  table-passes i = framed-passes i (table S s i).0 (table S s i).1 (table-frame S s i)
 
 -- Along a run.
 

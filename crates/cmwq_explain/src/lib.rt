@@ -1,5 +1,6 @@
-//! Why a work isn't further, and what a flush waits for, told along a run: at the settled positions and the last, at each, at one alone,
-//! or at those of a tick, wherever what is said changes.
+//! `why`: why a work item waits, or what a flush waits for, at the positions that the question names.
+//!
+//! Proved: `why` writes exactly the defined bytes, or returns the fault.
 #![tactic(auto)]
 
 mod answering;

@@ -1,4 +1,6 @@
-//! What is asked of all orders of a scenario's actors, by their names and those of works. Types alone.
+//! Questions that `explore` answers, with the names of callers and work items. Types alone.
+//!
+//! Proved: nothing. It has types only: the questions of `explore`.
 #![tactic(auto)]
 
 mod exploration;

@@ -1,4 +1,7 @@
-//! Every order of several actors' instructions: breadth first over the states to which they come.
+//! A breadth-first search over the states that the callers' instructions can reach, in every order.
+//!
+//! Proved: an interleaving that `explore` finds breaks the rule, and no shorter one does. If it reports none, none breaks the rule, and the number of states is right. If it gives up, no interleaving up to the reported length breaks the rule.
+//! Not proved: that it reaches an answer within its limit, and its speed.
 #![tactic(auto)]
 
 mod asking;

@@ -1,5 +1,7 @@
-//! `explore`: from a scenario's text to an order of its actors' instructions that comes to what is never to be, as a scenario that shows
-//! it, or to the sentence that none does.
+//! `explore`: from a scenario's text to an interleaving that breaks the rule, written as a scenario, or
+//! to the sentence that none does.
+//!
+//! Proved: `explore` writes the interleaving that it found as a scenario that shows it, or the line of the answer, or returns the fault.
 #![tactic(auto)]
 
 mod answers;

@@ -1,4 +1,8 @@
-//! What may stand at a place of a scenario's text, and what a word that can't stand there is meant as; with a law on where a line may end.
+//! The words that the grammar allows at a place of a text, and the nearest allowed word to a word that
+//! isn't.
+//!
+//! Proved: the words that fit at a place, and the word that was probably meant, are as defined.
+//! Not proved: that no other new name or number would fit.
 #![tactic(auto)]
 
 pub mod examples;

@@ -1,4 +1,6 @@
-//! What a flush waits for, asked of a machine, as text.
+//! What a flush waits for, computed from a machine, as text.
+//!
+//! Proved: the lines about a flush have the bytes of their definition.
 #![tactic(auto)]
 
 mod flush;

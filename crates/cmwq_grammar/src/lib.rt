@@ -1,5 +1,7 @@
-//! The grammar of a scenario's text: which texts spell which scenario, what reading gives, and where the
-//! first fault of a text is. Laws over these definitions are functions with empty bodies.
+//! The grammar of a scenario's text: which texts spell which scenario, and where the first fault of a
+//! text is. Laws of these definitions are functions with empty bodies.
+//!
+//! Proved: laws: a text spells at most one scenario. They give the line and the reason of its first fault.
 #![tactic(auto)]
 
 pub mod examples;

@@ -1,5 +1,7 @@
-//! The workers of a machine's pools: how many each pool has made, and which of them are idle, the last one first; and, as a law, which pools
-//! a change leaves alone.
+//! The workers of a machine's pools: how many each pool has created, and which are idle, the last one
+//! first.
+//!
+//! Proved: the idle workers are the table's. A pool that a change doesn't reach keeps its next move.
 #![tactic(auto)]
 
 mod far;

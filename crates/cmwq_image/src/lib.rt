@@ -1,4 +1,7 @@
-//! The image of a scenario: its bytes, written and read field by field.
+//! The binary image of a scenario, written and read field by field.
+//!
+//! Proved: `write` and `read`: reading what was written gives the same scenario. Faults are found from the left.
+//! Not proved: the texts of faults.
 #![tactic(auto)]
 
 mod error;

@@ -1,4 +1,6 @@
 //! An instruction in the words of the listing.
+//!
+//! Proved: the words of an instruction are those of the listing.
 #![tactic(auto)]
 
 mod instr_text;

@@ -1,5 +1,8 @@
-//! The interleaving that a play's actors took, as a text: a scenario whose one actor gives the instructions of a history, what running it
-//! prints, and that it can be run.
+//! `play`: callers in threads, and the interleaving that they took as a scenario with one caller, which
+//! can be run.
+//!
+//! Proved: `play` writes the scenario of an interleaving, and its comments are the lines of its run.
+//! Not proved: that callers run at the same time.
 #![tactic(auto)]
 
 mod commenting;

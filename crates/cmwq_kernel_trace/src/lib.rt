@@ -1,5 +1,8 @@
-//! A run as the kernel traces it: `trace --text`, as its file `/sys/kernel/tracing/trace` shows it, and `trace --dat`, the file `trace.dat`,
-//! which `trace-cmd report` and KernelShark open.
+//! `trace --text`, a run as the file `/sys/kernel/tracing/trace` shows it; and `trace --dat`, the file
+//! `trace.dat`.
+//!
+//! Proved: `trace --text` and `trace --dat` write exactly the defined bytes, or return the fault. It has worked examples.
+//! Not proved: what a viewer shows.
 #![tactic(auto)]
 
 mod columns;

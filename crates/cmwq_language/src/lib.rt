@@ -1,4 +1,6 @@
-//! What a scenario's text may say, on one page.
+//! The page `help scenario`: what a scenario's text can say.
+//!
+//! Proved: the page of `help scenario` has each flag and each instruction that the reader accepts.
 #![tactic(auto)]
 
 pub mod laws;

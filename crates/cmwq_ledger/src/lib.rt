@@ -1,4 +1,6 @@
-//! Where the time of each instance of a work went, and sums of queues, CPUs and pools.
+//! Where the time of each instance of a work item went, and sums for queues, CPUs and pools.
+//!
+//! Proved: `Books::record`: the accounts of instances, and the sums, are as defined.
 #![tactic(auto)]
 
 mod account;

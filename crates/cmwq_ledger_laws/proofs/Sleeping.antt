@@ -3,7 +3,7 @@ use Rattle.std.proofs.Common.{◌≡◌, ℕ, ◌+◌, ◌-◌, ◌<◌, ◌≤�
 use Rattle.std.proofs.lemmas.Bool.{and_parts, eq-eqb, leb-false, leb-true}
 use Rattle.std.specs.Prelude.{is_some, nat_le, slice_set, ◌==◌}
 use Rattle.cmwq_types.specs.Contents.{ScenarioContents}
-use Rattle.cmwq_types.specs.First.{MatchFirst, by_least, by_least_two}
+use Rattle.cmwq_types.specs.First.{MatchFirst, by_least}
 use Rattle.cmwq_types.specs.Scenario.{op_at, pool_count}
 use Rattle.cmwq_types.specs.declared.instr.Instr.{Instr}
 use Rattle.cmwq_types.specs.declared.instr.WorkId.{WorkId}
@@ -17,7 +17,6 @@ use Rattle.cmwq_types.specs.declared.reply.Reply.{Reply}
 use Rattle.cmwq_types.specs.declared.reply.Reply.TheVariants as reply
 use Rattle.cmwq_types.specs.declared.scenario.Op.{Op}
 use Rattle.cmwq_types.specs.declared.scenario.Op.TheVariants as op
-use Rattle.cmwq_types.proofs.FirstLemmas.{by_least_two-order, first_below-is_first}
 use Rattle.cmwq_table.specs.Changes.{MoveFits, slept_in}
 use Rattle.cmwq_table.specs.Counts.{first_runnable, first_slept, is_runnable, is_slept, or_else, ready_head, running_before, running_stamp, running_until, runs}
 use Rattle.cmwq_table.specs.Moves.{as_move, first_moving, moved_work, next_move, start_move, tick}
@@ -25,7 +24,7 @@ use Rattle.cmwq_table.specs.State.{State, running_at}
 use Rattle.cmwq_table.specs.Table.{table}
 use Rattle.cmwq_table.specs.Told.{is_end, is_start, sleep_of}
 use Rattle.cmwq_table.specs.declared.state.Running.{Running}
-use Rattle.cmwq_table.proofs.Choosing.{IfThere, found-first, moving-is_first, ready-runnable, runnable-is_first, slept-is_slept}
+use Rattle.cmwq_table.proofs.Choosing.{IfThere, found-first, moving-is_first, ready-runnable, runnable-is_first, slept-is_first, slept-is_slept, slept_before}
 use Rattle.cmwq_table.proofs.Runs.{Run, Runs, table-runs}
 use Rattle.cmwq_burning.proofs.Happening.{IsSilent}
 use Rattle.cmwq_burning.proofs.Settling.{IsSettled}
@@ -69,14 +68,6 @@ runnable-awake S s pool =
     awake w None e = e
 
 -- While no pool has a move, no sleep is over.
-
-abbrev slept_before : State → ℕ → ℕ → Bool
-slept_before s = by_least_two (λ w. running_until (running_at s w)) (λ w. running_stamp (running_at s w))
-
-slept-is_first : (S : ScenarioContents) (s : State) (pool : ℕ) → MatchFirst (slept_before s) (λ w. runs (slept_in pool s.time) (running_at s w)) (length S.works) (first_slept S s pool)
-slept-is_first S s pool =
-    first_below-is_first (slept_before s) (λ w. runs (slept_in pool s.time) (running_at s w)) (length S.works)
-    (by_least_two-order (λ w. running_until (running_at s w)) (λ w. running_stamp (running_at s w)))
 
 no-move : (S : ScenarioContents) (s : State) (o : Option ℕ) → MatchFirst (by_least (λ pool. pool)) (λ pool. is_some (next_move S s pool)) (pool_count S) o → o ≡ None
     → (pool : ℕ) → pool < pool_count S → is_some (next_move S s pool) ≡ false

@@ -162,17 +162,17 @@ module _ (S : ScenarioContents) (s : State) where
   -- from a state in which the same works pend
   turned : (b t : State) (w : ℕ) (took put : Bool) → IsSetting S → length s.pending ≡ length S.works → b.pending ≡ s.pending → Turn S b w took put t → Turns s t None (work_if took w) (work_if put w)
   turned b t w took put setting long same (Turn.fills u filling) = Turns.stays (both s b u (kept s b same) (fills-same S b u filling))
-  turned b t w took put setting long same (Turn.fires p at is) = Turns.stays (both s b t (kept s b same) (changed b w p (with_pending b w None) t _ is Fills.stays refl))
-  turned b t w took put setting long same (Turn.puts at there is) =
+  turned b t w took put setting long same (Turn.fires p due cpu is at) = Turns.stays (both s b t (kept s b same) (changed b w p (with_pending b w None) t _ is Fills.stays refl))
+  turned b t w took put setting long same (Turn.puts cpu ticks may enabled is) =
       Turns.requests w (ap is_some (ap (λ (pending : List (Option Pending)). slice_index_or pending w None) (sym same) ∙ is))
-      (then-with s b t w (kept s b same) (come b t w _ (omega (arith, there setting, long, ap length same)) refl))
+      (then-with s b t w (kept s b same) (come b t w _ (omega (arith, may.work_there setting, long, ap length same)) refl))
   turned b t w took put setting long same (Turn.takes p u is filling) =
       let off = with_pending b w None in
       let without : Without b u w = without-then b off u w (gone b off w refl) (fills-same S off u filling) in
       let here = kept s b same in
       Turns.cancels w (ap is_some (ap (λ (pending : List (Option Pending)). slice_index_or pending w None) (sym same) ∙ is))
       (record { here = without.here; else = λ v ne. without.else v ne ∙ here.some v; long = without.long ∙ here.long })
-  turned b t w took put setting long same (Turn.changes p u at there is filling) =
+  turned b t w took put setting long same (Turn.changes p u cpu ticks may enabled is filling) =
       Turns.changes w (ap is_some (ap (λ (pending : List (Option Pending)). slice_index_or pending w None) (sym same) ∙ is)) (both s b t (kept s b same) (changed b w p u t _ is filling refl))
 
   -- where the same works pend in the end

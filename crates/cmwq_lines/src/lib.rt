@@ -1,4 +1,6 @@
-//! The lines of replies, put together from parts that are made once.
+//! The lines of replies, joined from parts that are made once.
+//!
+//! Proved: `ReplyLines::push`: the line of each reply has the bytes of its definition.
 #![tactic(auto)]
 
 mod block;

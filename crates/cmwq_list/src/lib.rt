@@ -1,4 +1,6 @@
-//! The lister: the canonical text of a scenario.
+//! The lister: it writes the canonical text of a scenario.
+//!
+//! Proved: `list` gives the canonical listing.
 #![tactic(auto)]
 
 mod line_end;

@@ -1,8 +1,9 @@
-//! A ticket lock: callers draw tickets, and take their turns at one kept value in the order of these.
+//! A ticket lock: callers draw tickets and get the locked value in the order of their tickets.
+//! `TicketLock::open` returns the lock and its `Opener`, which has at most 64 passes. With a `Pass` a
+//! caller draws one of 2^62 tickets. With a `Drawn` it makes one `Call`, which adds at most one entry
+//! to the value's log. The rules and limits are this project's own.
 //!
-//! `TicketLock::open` gives the lock and its `Opener`, which gives out at most 64 passes at once. With a `Pass` a caller draws a
-//! ticket, one of 2^62, and with the `Drawn` it takes one turn: it carries a `Call` out on the value, which adds at most one
-//! entry to the value's log. Its rule, words and limits are this project's own.
+//! Proved: `TicketLock`: one history, with turns in ticket order, for any kept value.
 #![tactic(auto)]
 
 mod fault;

@@ -5,10 +5,11 @@ use Rattle.cmwq_types.specs.Contents.{ScenarioContents}
 use Rattle.cmwq_types.specs.Scenario.{pool_count}
 use Rattle.cmwq_types.specs.declared.instr.Instr.{Instr}
 use Rattle.cmwq_types.specs.declared.limits.TheConstants.{MAX_WORKERS}
+use Rattle.cmwq_types.specs.declared.reply.Reply.{Reply}
 use Rattle.cmwq_table.specs.State.{State}
 use Rattle.cmwq_table.specs.State as states
 use Rattle.cmwq_table.specs.Table.{table}
-use Rattle.cmwq_table.proofs.Frames.{Frame, IsAsLong, table-frame}
+use Rattle.cmwq_table.proofs.Frames.{Frame, IsAsLong, IsRefused, table-frame}
 use Rattle.cmwq_orders.proofs.OrderLemmas.{if-some, kept_along, line-taken, none_some, own-taken, unless-some}
 use Rattle.cmwq_orders.specs.Laws.{ReachedStatesAreWhole}
 use Rattle.cmwq_orders.specs.Orders.{Explored, cannot_come, next_line, reached, start, taken, taken_next, went_on, carried, comes}
@@ -17,12 +18,12 @@ use Rattle.cmwq_orders.specs.declared.choice.Before.{Before}
 use Rattle.cmwq_orders.specs.declared.choice.Choice.{Choice}
 use Rattle.cmwq_orders.specs.declared.choice.Choice.TheVariants.{Line, Own}
 
-framed-long : (S : ScenarioContents) (s t : State) (i : Instr) → (Frame S s i t) ⊎ (t ≡ s) → IsAsLong s t
-framed-long S s t i (inl frame) = frame.long
-framed-long S s t i (inr same) = record { pending = ap (λ (u : State). length u.pending) same; running = ap (λ (u : State). length u.running) same; idle = ap (λ (u : State). length u.idle) same }
+framed-long : (S : ScenarioContents) (s t : State) (i : Instr) (r : Reply) → (Frame S s i t) ⊎ (IsRefused s t r) → IsAsLong s t
+framed-long S s t i r (inl frame) = frame.long
+framed-long S s t i r (inr refused) = record { pending = ap (λ (u : State). length u.pending) refused.same; running = ap (λ (u : State). length u.running) refused.same; idle = ap (λ (u : State). length u.idle) refused.same }
 
 table-long : (S : ScenarioContents) (s : State) (i : Instr) → IsAsLong s (table S s i).0
-table-long S s i = framed-long S s (table S s i).0 i (table-frame S s i)
+table-long S s i = framed-long S s (table S s i).0 i (table S s i).1 (table-frame S s i)
 
 pub table-sized : (S : ScenarioContents) (s : State) (i : Instr) → IsSized S s → IsSized S (table S s i).0
 table-sized S s i sized =

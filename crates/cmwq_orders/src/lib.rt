@@ -1,4 +1,7 @@
-//! Orders of several actors' instructions: what may come next, what comes of it, and what is asked of all orders.
+//! The orders in which the callers' instructions can be issued: what can come next, what results, and
+//! which question is answered over all orders.
+//!
+//! Proved: laws: an interleaving of several callers is a run of the instruction table. A set of states that no choice leaves contains every reachable state.
 #![tactic(auto)]
 
 mod choice;

@@ -1,5 +1,8 @@
-//! What the program tells of how it ended: help, the version, usage faults, verdicts of files, and faults with their exit status; and the
-//! scenario that a newcomer starts from.
+//! The program's last words: help, the version, usage faults, verdicts, and faults with their exit
+//! status; and the scenario that `new` writes.
+//!
+//! Proved: statuses, fault lines, and what `check` prints of one file. The text of `new` spells a stated scenario, which prints stated lines.
+//! Not proved: the texts of the command-line library.
 #![tactic(auto)]
 
 pub mod fault;

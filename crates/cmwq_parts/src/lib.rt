@@ -1,5 +1,8 @@
-//! What a machine is made of, its `Parts`, and a machine amid an instruction, `Going`, with what the table's instructions are made of:
-//! placing works, filling pools, limits, and the moves of worker pools.
+//! `Parts`, the data structure of a machine, and `Going`, a machine in the middle of an instruction. It
+//! has the steps of which instructions are made: placing work items, filling pools, limits, and moves
+//! of pools.
+//!
+//! Proved: each single change of a machine is the change of the table, over any structure.
 #![tactic(auto)]
 
 mod going;

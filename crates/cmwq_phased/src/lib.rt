@@ -1,5 +1,7 @@
-//! The running works of a machine by phase, with quick answers on who is first and how many there are. A fast machine keeps the time at which
-//! something ends in place of what is left of it, and no time is kept here.
+//! The running work items of a machine, by phase. It finds the first one of a phase, and counts them,
+//! without a scan. It stores when a phase ends, not how much is left.
+//!
+//! Proved: the running work items by phase, with their end times, are the table's map.
 #![tactic(auto)]
 
 mod alarms;

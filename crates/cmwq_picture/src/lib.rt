@@ -1,4 +1,7 @@
-//! What a picture of a run shows: a row for each work, CPU and worker, and a column for each tick, or for many in which nothing changes.
+//! The picture of a run: one row per work item, CPU and worker, and one column per tick, or per stretch
+//! of ticks without a change.
+//!
+//! Proved: rows and columns of a picture are as defined.
 #![tactic(auto)]
 
 mod acting;

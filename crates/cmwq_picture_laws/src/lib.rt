@@ -1,4 +1,7 @@
-//! A picture shows that an instance burns as often as its body says; and worked examples of pictures, and of how they are drawn. No other crate stands on this one.
+//! The law that a picture shows an instance burning as often as its body says; and worked examples of
+//! pictures. No other crate depends on this one.
+//!
+//! Proved: laws: a picture shows as many burns as the body says. It has a timer's mark exactly at a tick at which a body set a timer.
 #![tactic(auto)]
 
 pub mod burning;

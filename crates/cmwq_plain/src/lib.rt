@@ -1,6 +1,7 @@
-//! `Plain`: the instruction table over vectors that are scanned. It is slow on purpose, the yardstick for
-//! every other machine. Its own structure is `Records`, plain vectors with a record for each number. Whatever
-//! the instruction table asks of it is answered by a scan. What an instruction does isn't known there.
+//! `Plain`: the simple machine, over vectors that are scanned. It is slow on purpose: other machines
+//! are compared with it. `Records` is its data structure and knows nothing of instructions.
+//!
+//! Proved: plain vectors are such a structure. `Plain` is the machine over them.
 #![tactic(auto)]
 
 mod burning_heads;

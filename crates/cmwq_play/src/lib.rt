@@ -1,5 +1,7 @@
-//! The commands of the program as functions over readers and writers, and tellers, which tell something of a run along with it, before it and
-//! behind it.
+//! The commands over readers and writers; and tellers, which print something before, during and after a
+//! run.
+//!
+//! Proved: `run`, `list_text`, `to_image` and `from_image` write exactly the defined bytes, or return the fault.
 #![tactic(auto)]
 
 mod framed;

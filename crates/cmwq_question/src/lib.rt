@@ -1,4 +1,6 @@
-//! What may be asked of why works wait. Types alone.
+//! Questions that `why` answers. Types alone.
+//!
+//! Proved: nothing. It has types only: the options of `why`.
 #![tactic(auto)]
 
 mod question;

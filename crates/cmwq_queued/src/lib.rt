@@ -1,4 +1,7 @@
-//! The pending works of a machine, with quick answers on who is first and how many there are.
+//! The pending work items of a machine. It finds the first one of a kind, and counts them, without a
+//! scan.
+//!
+//! Proved: the pending work items are the table's map, and each lookup has its answer.
 #![tactic(auto)]
 
 mod indexes;

@@ -1,6 +1,7 @@
-//! What the instruction table counts and seeks in a machine's state, by scans over whatever can be asked of it, and what it refuses an
-//! instruction for at once; and the vectors of a start state, of a copy and of a look. It is written once, for machines and for whoever looks at
-//! one.
+//! Counts and searches over a machine's state, by scans. They are written once, for every machine and
+//! for everything that reads one.
+//!
+//! Proved: what the instruction table counts and looks up, over any machine. Limits are as declared, and a copy and a view have every flush and map.
 #![tactic(auto)]
 
 mod beginning;

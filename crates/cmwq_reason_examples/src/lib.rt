@@ -1,5 +1,7 @@
-//! Worked examples of why works wait, as theorems over the definitions: each function's contract has the reasons of some
-//! works at some positions of one scenario, with who is named. `cmwq_why_laws` has the text of some of them.
+//! Worked examples of why work items wait. Each function's contract gives the reasons at some positions
+//! of one scenario. `cmwq_why_laws` has the text of some of them.
+//!
+//! Proved: worked examples of the reasons.
 #![tactic(auto, unfolding(cmwq_table::specs::Table::table))]
 
 ghost use Rattle.cmwq_reason_examples.specs.Waiting.{again, ahead_at, at, beside_rescuer, blamed_at, by_twos, chain, four_halves, hold, listed_before, outside, waits_at, why};

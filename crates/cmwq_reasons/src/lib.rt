@@ -1,4 +1,6 @@
-//! Why a work doesn't get on, and who holds it: the reasons of its pending and its running half, read off a state.
+//! Why a work item waits, and which work item or worker it waits for. Both are read from one state.
+//!
+//! Proved: laws: each reason why a work item waits is given exactly when its condition is true.
 #![tactic(auto)]
 
 pub mod laws;

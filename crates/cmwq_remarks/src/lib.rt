@@ -1,4 +1,6 @@
-//! What should be known of a run that ended well, and of a good text: lines for a person.
+//! Remarks after a run that ended well, and notes on a good text.
+//!
+//! Proved: `remarks`: how many instructions were refused, how many work items are left, and which lines say so. `notes`: the lines at which a kernel differs, and those that do less than they seem to.
 #![tactic(auto)]
 
 pub mod examples;

@@ -1,5 +1,6 @@
-//! A picture of a run as text, a line for each row under the times of its columns; and what a picture of every form says: labels,
-//! times, folded columns, a legend, and what the actor did.
+//! A picture as text, with its labels, times, folded columns and legend, and what the caller did.
+//!
+//! Proved: the picture as text, to the byte. No two work items have the same letter.
 #![tactic(auto)]
 
 mod act_lines;

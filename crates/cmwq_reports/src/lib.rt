@@ -1,4 +1,6 @@
-//! What may be told of a run, to be measured or to be shown elsewhere. Types alone.
+//! Options of `times` and `trace`. Types alone.
+//!
+//! Proved: nothing. It has types only: the options of `times` and `trace`.
 #![tactic(auto)]
 
 mod report;

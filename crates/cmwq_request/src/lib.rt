@@ -1,4 +1,6 @@
-//! What the words of a command line ask for.
+//! The request that the words of a command line spell.
+//!
+//! Proved: each command line of the defined form is the request that the definition gives.
 #![tactic(auto)]
 
 pub mod asking;

@@ -1,4 +1,6 @@
-//! Rings of actors each of whom begins only when the one before has ended.
+//! Cycles of callers, each of which begins only after the one before has ended.
+//!
+//! Proved: `find_ring` returns pairs that form a cycle, or that there is no cycle.
 #![tactic(auto)]
 
 mod examples;

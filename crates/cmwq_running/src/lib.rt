@@ -1,5 +1,7 @@
-//! The running works of a machine, and its time. Contracts see the table's own map of the running works at the time; that no tick changes
-//! anything of a run unless something ends shows nowhere.
+//! The running work items of a machine, and its time. Contracts describe them by the table's map of
+//! running work items at that time.
+//!
+//! Proved: the running work items at the machine's time are the table's map, and each lookup has its answer.
 #![tactic(auto)]
 
 mod changing;

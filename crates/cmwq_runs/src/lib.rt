@@ -1,4 +1,6 @@
-//! A run's instructions, one after another.
+//! The instructions of a run, one after another.
+//!
+//! Proved: `Instructions` gives the instructions of a run in order, each as often as its line says.
 #![tactic(auto)]
 
 mod instructions;

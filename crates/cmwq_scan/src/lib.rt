@@ -1,4 +1,6 @@
-//! The lines of a scenario's text, their words, and the fields that the words are.
+//! The lines of a scenario's text, their words, and the fields that words spell.
+//!
+//! Proved: the lines, words and fields of a text are as defined.
 #![tactic(auto)]
 
 mod cutting;

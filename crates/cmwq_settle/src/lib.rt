@@ -1,4 +1,6 @@
-//! Settling a scenario: how many `next` it takes until its machine is quiet, that is, until no work is pending and none runs.
+//! Settling a scenario: how many `next` it needs until no work item is pending or running.
+//!
+//! Proved: `settle` writes exactly the defined bytes, or returns the fault.
 #![tactic(auto)]
 
 mod counting;

@@ -1,5 +1,7 @@
-//! Slices of a run: the phases of instances, for which an instance of a work does the same tick by tick, and executions, from the start
-//! of an instance to its end.
+//! Slices of a run: phases, in which an instance does one thing, and executions, from the start of an
+//! instance to its end.
+//!
+//! Proved: `Phases` and `Executions`: what an instance does, and who executes it, with the first and the last tick.
 #![tactic(auto)]
 
 mod doing;

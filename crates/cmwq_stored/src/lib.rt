@@ -1,4 +1,6 @@
-//! What is kept of a state of an order: every part of it, as bytes that can be compared and hashed.
+//! The bytes of a state that `explore` compares and hashes.
+//!
+//! Proved: two stored states are equal only if the whole states are equal.
 #![tactic(auto)]
 
 pub mod laws;

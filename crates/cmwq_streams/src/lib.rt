@@ -1,4 +1,6 @@
-//! Readers and writers that remember a failure, what goes out to them, and why a command ended early.
+//! Readers and writers that remember a failure, and the reason why a command ended early.
+//!
+//! Proved: what reaches a writer, also if the writer fails.
 #![tactic(auto)]
 
 mod block_writer;

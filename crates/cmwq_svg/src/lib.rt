@@ -1,4 +1,7 @@
-//! A picture of a run as SVG, which a browser shows without a script, on a light or a dark background.
+//! A picture as SVG, for a browser without scripts, on a light or a dark background.
+//!
+//! Proved: the picture as SVG, to the byte. Exactly one rectangle covers each cell that isn't empty.
+//! Not proved: how a browser shows it.
 #![tactic(auto)]
 
 mod act_marks;

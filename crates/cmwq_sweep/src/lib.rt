@@ -1,4 +1,6 @@
-//! What a scenario's run comes to, for each of several values of a queue's `max_active`.
+//! `times --sweep`: the results of a scenario's run for several values of a queue's `max_active`.
+//!
+//! Proved: `times --sweep` writes exactly the defined bytes, or returns the fault.
 #![tactic(auto)]
 
 mod error;

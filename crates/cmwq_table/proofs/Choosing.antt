@@ -74,12 +74,19 @@ head-ready S s pool =
 
 -- Sleepers.
 
+abbrev pub slept_before : State → ℕ → ℕ → Bool
+slept_before s = by_least_two (λ w. running_until (running_at s w)) (λ w. running_stamp (running_at s w))
+
+pub slept-is_first : (S : ScenarioContents) (s : State) (pool : ℕ)
+    → MatchFirst (slept_before s) (λ w. runs (slept_in pool s.time) (running_at s w)) (length S.works) (first_slept S s pool)
+slept-is_first S s pool =
+    first_below-is_first (slept_before s) (λ w. runs (slept_in pool s.time) (running_at s w)) (length S.works)
+    (by_least_two-order (λ w. running_until (running_at s w)) (λ w. running_stamp (running_at s w)))
+
 first-slept : (S : ScenarioContents) (s : State) (pool : ℕ) → IfThere (HasSlept S s pool) (first_slept S s pool)
 first-slept S s pool =
-    let before = by_least_two (λ w. running_until (running_at s w)) (λ w. running_stamp (running_at s w)) in
-    let test = λ (w : ℕ). runs (slept_in pool s.time) (running_at s w) in
-    found-first before test (length S.works) (HasSlept S s pool) (λ w h e. record { there = h; slept = e }) (first_slept S s pool)
-    (first_below-is_first before test (length S.works) (by_least_two-order (λ w. running_until (running_at s w)) (λ w. running_stamp (running_at s w))))
+    found-first (slept_before s) (λ w. runs (slept_in pool s.time) (running_at s w)) (length S.works) (HasSlept S s pool) (λ w h e. record { there = h; slept = e }) (first_slept S s pool)
+    (slept-is_first S s pool)
 
 -- Listed works.
 

@@ -1,8 +1,7 @@
--- Shows: one walk along the instruction table can say both what an instruction does and what its reply tells of that.
--- Fills, Turn and Acts are the changes; IsAsking and IsAnswer tie the event or the reply to them. Stands in cmwq_table.proofs.
--- Needs Tells.antt (definitions), choosing.diff (MoveFits says a little more) and burning_spec.diff (event_of).
-use Rattle.std.proofs.Common.{◌≡◌, ℕ, zero, suc, ◌+◌, ◌-◌, ◌<◌, Bool, true, false, cond, length, Option, Some, None, refl, ap, ◌∙◌, subst}
-use Rattle.std.proofs.lemmas.Bool.{ltb-true}
+-- The one walk along the instruction table: what each instruction changes, and what its reply says of that (specs/Changes.antt).
+-- Other proofs follow from `table-does`, and need no case for each instruction or operation.
+use Rattle.std.proofs.Common.{◌≡◌, ℕ, zero, suc, ◌+◌, ◌-◌, ◌<◌, Bool, true, false, not, cond, length, Option, Some, None, refl, ap, ◌∙◌, subst}
+use Rattle.std.proofs.lemmas.Bool.{ltb-true, not-true}
 use Rattle.std.specs.Prelude.{if◌then◌else◌, slice_set, is_some, nat_lt, ◌==◌}
 use Rattle.cmwq_types.specs.Contents.{ScenarioContents}
 use Rattle.cmwq_types.specs.Scenario.{flags_at, local_cpu, op_at, queue_of, pool_count}
@@ -17,7 +16,7 @@ use Rattle.cmwq_types.specs.declared.reply.Event.TheVariants as event
 use Rattle.cmwq_types.specs.declared.reply.Place.{Place}
 use Rattle.cmwq_types.specs.declared.reply.Place.TheVariants.{Timer, Inactive, Listed, Deferred}
 use Rattle.cmwq_types.specs.declared.reply.Refusal.{Refusal}
-use Rattle.cmwq_types.specs.declared.reply.Refusal.TheVariants.{NoSuchCpu, NoSuchPool, NoSuchWork, NothingToDo}
+use Rattle.cmwq_types.specs.declared.reply.Refusal.TheVariants.{Disabled, NoSuchCpu, NoSuchPool, NoSuchWork, NothingToDo}
 use Rattle.cmwq_types.specs.declared.reply.Reply.{Reply}
 use Rattle.cmwq_types.specs.declared.reply.Reply.TheVariants as reply
 use Rattle.cmwq_types.specs.declared.scenario.Op.{Op}
@@ -26,11 +25,12 @@ use Rattle.cmwq_table.specs.Counts.{first_due, first_inactive, free_worker, has_
 use Rattle.cmwq_table.specs.Moves.{advance, begin_again, begin_on, carry_out, come_to_end, enlist, fill, fill_everywhere, fill_freezable, fill_from, fill_one, fill_pools, fill_times, filled, finish, fire, fired, fired_to, first_moving, freeze, moved, moved_work, newborn, next_move, onward, place, place_after, queue_from_body, delay_from_body, mod_from_body, pool_for, retire, started_on, take_off, taken_off, taking, tick, with_depth, with_flush, with_pending, with_pressed, with_running}
 use Rattle.cmwq_table.specs.Moves as moves
 use Rattle.cmwq_table.specs.State.{State, depth_at, is_disabled, pending_at, running_at}
-use Rattle.cmwq_table.specs.Table.{answer, cancelled, delayed, effect, fired_first, is_met, modified, next, next_unless, no_work, no_work_or_cpu, operands, queued, refuse_unless, situation, spent_all, step_or_tick, stepped, table, target_at, unsettled, yes_or_no}
+use Rattle.cmwq_table.specs.Table.{answer, cancelled, delayed, effect, fired_first, is_met, modified, next, next_unless, no_work, no_work_or_cpu, operands, queued, refuse_unless, situation, spent_all, step_or_tick, stepped, table, target_at, unsettled, while_enabled, yes_or_no}
 use Rattle.cmwq_table.specs.declared.state.Pending.{Pending}
 use Rattle.cmwq_table.specs.declared.state.Running.{Running}
 use Rattle.cmwq_table.specs.Told.{burn_of, cancelled_by, event_of, is_end, is_start, queued_in, requested_by, sleep_of, taken_off_in, work_if}
-use Rattle.cmwq_table.specs.Changes.{Acts, ChangesWhatItSays, Does, Effect, Fills, IsAnswer, IsAsking, IsThere, MoveFits, Sets, Turn, ready_in, sets_depth, slept_in}
+use Rattle.cmwq_table.specs.Changes.{Acts, ChangesWhatItSays, Does, Effect, Fills, IsAnswer, IsAsking, MayPlace, MoveFits, Sets, Turn, ready_in, sets_depth, slept_in}
+use Rattle.cmwq_types.proofs.SettingLemmas.{local_cpu-in_range}
 use Rattle.cmwq_table.proofs.Choosing.{first_moving-there, next_move-fits}
 
 -- Filling.
@@ -78,36 +78,33 @@ fill_from-fills S queue (Deferred pool) s = fill-fills S queue pool s
 -- Placing and taking off.
 
 module _ (S : ScenarioContents) (s : State) (w : ℕ) where
-  -- where a work is placed
-  abbrev at_once : State → ℕ → Place
-  at_once t cpu = if has_room S t (queue_of S w) (pool_for S t w cpu) then Listed (pool_for S t w cpu) else Inactive (pool_for S t w cpu)
-
   still-turns : Turn S s w false false s
   still-turns = Turn.fills s Fills.stays
 
-  placed-turns : (cpu ticks : ℕ) → IsThere S w → pending_at s w ≡ None → Turn S s w false true (place_after S s w cpu ticks)
-  placed-turns cpu zero there is = Turn.puts (at_once s cpu) there is
-  placed-turns cpu (suc ticks) there is = Turn.puts (Timer (s.time + suc ticks) cpu) there is
+  placed-turns : (cpu ticks : ℕ) → MayPlace S w cpu → is_disabled s w ≡ false → pending_at s w ≡ None → Turn S s w false true (place_after S s w cpu ticks)
+  placed-turns cpu zero may enabled is = Turn.puts cpu 0 may enabled is
+  placed-turns cpu (suc ticks) may enabled is = Turn.puts cpu (suc ticks) may enabled is
 
   taken_off-turns : (o : Option Pending) → pending_at s w ≡ o → Turn S s w (is_some o) false (taken_off S s w o)
   taken_off-turns (Some p) is = Turn.takes p (taken_off S s w (Some p)) is (fill_from-fills S (queue_of S w) p.place (with_pending s w None))
   taken_off-turns None is = still-turns
 
-  modified-turns : (cpu ticks : ℕ) (o : Option Pending) → IsThere S w → pending_at s w ≡ o → Turn S s w (is_some o) true (place_after S (taken_off S s w o) w cpu ticks)
-  modified-turns cpu zero (Some p) there is =
-      let off = taken_off S s w (Some p) in Turn.changes p off (at_once off cpu) there is (fill_from-fills S (queue_of S w) p.place (with_pending s w None))
-  modified-turns cpu (suc ticks) (Some p) there is =
-      let off = taken_off S s w (Some p) in Turn.changes p off (Timer (off.time + suc ticks) cpu) there is (fill_from-fills S (queue_of S w) p.place (with_pending s w None))
-  modified-turns cpu ticks None there is = placed-turns cpu ticks there is
+  modified-turns : (cpu ticks : ℕ) (o : Option Pending) → MayPlace S w cpu → is_disabled s w ≡ false → pending_at s w ≡ o
+      → Turn S s w (is_some o) true (place_after S (taken_off S s w o) w cpu ticks)
+  modified-turns cpu zero (Some p) may enabled is =
+      Turn.changes p (taken_off S s w (Some p)) cpu 0 may enabled is (fill_from-fills S (queue_of S w) p.place (with_pending s w None))
+  modified-turns cpu (suc ticks) (Some p) may enabled is =
+      Turn.changes p (taken_off S s w (Some p)) cpu (suc ticks) may enabled is (fill_from-fills S (queue_of S w) p.place (with_pending s w None))
+  modified-turns cpu ticks None may enabled is = placed-turns cpu ticks may enabled is
 
-  fired_to-turns : (p : Pending) (at : Place) → pending_at s w ≡ Some p → Turn S s w false false (fired_to S s w at)
-  fired_to-turns p (Timer due cpu) is = Turn.fires p (at_once (with_pending s w None) cpu) is
-  fired_to-turns p (Inactive pool) is = still-turns
-  fired_to-turns p (Listed pool) is = still-turns
-  fired_to-turns p (Deferred pool) is = still-turns
+  fired_to-turns : (p : Pending) (at : Place) → pending_at s w ≡ Some p → p.place ≡ at → Turn S s w false false (fired_to S s w at)
+  fired_to-turns p (Timer due cpu) is at_is = Turn.fires p due cpu is at_is
+  fired_to-turns p (Inactive pool) is at_is = still-turns
+  fired_to-turns p (Listed pool) is at_is = still-turns
+  fired_to-turns p (Deferred pool) is at_is = still-turns
 
   fired-turns : (o : Option Pending) → pending_at s w ≡ o → Turn S s w false false (fired S s w o)
-  fired-turns (Some p) is = fired_to-turns p p.place is
+  fired-turns (Some p) is = fired_to-turns p p.place is refl
   fired-turns None is = still-turns
 
 -- Moves.
@@ -128,26 +125,36 @@ module _ (S : ScenarioContents) (s : State) (pool : ℕ) (w : WorkId) where
     in-range : (o : Op) → op_at S w.0 r.pc ≡ o → IsSetting S → IsOpInRange S o
     in-range o at setting = subst (IsOpInRange S) at (setting.ops w.0 r.pc)
 
-    queues-acts : (v : WorkId) (cpu : ℕ) (b : Bool) (o : Option Pending) → op_at S w.0 r.pc ≡ op.Queue v cpu → pending_at s v.0 ≡ o → Moves (Advance w) (queue_from_body S on v cpu b o)
-    queues-acts v cpu true o at so = Acts.asks w r (op.Queue v cpu) (event.QueuesDisabled v) v.0 false false on is at (asking _ _ _ false false refl refl refl refl refl refl) (still-turns S on v.0)
-    queues-acts v cpu false (Some p) at so = Acts.asks w r (op.Queue v cpu) (event.Queues v true) v.0 false false on is at (asking _ _ _ false false refl refl refl refl refl refl) (still-turns S on v.0)
-    queues-acts v cpu false None at so =
-        Acts.asks w r (op.Queue v cpu) (event.Queues v false) v.0 false true (place S on v.0 cpu) is at (asking _ _ _ false true refl refl refl refl refl refl) (placed-turns S on v.0 cpu 0 (λ setting. (in-range _ at setting).0) so)
+    queues-acts : (v : WorkId) (cpu : ℕ) (b : Bool) (o : Option Pending) → op_at S w.0 r.pc ≡ op.Queue v cpu → is_disabled s v.0 ≡ b → pending_at s v.0 ≡ o
+        → Moves (Advance w) (queue_from_body S on v cpu b o)
+    queues-acts v cpu true o at off so = Acts.asks w r (op.Queue v cpu) (event.QueuesDisabled v) v.0 false false on is at (asking _ _ _ false false refl refl refl refl refl refl) (still-turns S on v.0)
+    queues-acts v cpu false (Some p) at off so = Acts.asks w r (op.Queue v cpu) (event.Queues v true) v.0 false false on is at (asking _ _ _ false false refl refl refl refl refl refl) (still-turns S on v.0)
+    queues-acts v cpu false None at off so =
+        let may : MayPlace S v.0 cpu = record { work_there = λ setting. (in-range _ at setting).0; cpu_there = λ setting. (in-range _ at setting).1 } in
+        Acts.asks w r (op.Queue v cpu) (event.Queues v false) v.0 false true (place S on v.0 cpu) is at (asking _ _ _ false true refl refl refl refl refl refl) (placed-turns S on v.0 cpu 0 may off so)
 
-    delays-acts : (v : WorkId) (cpu ticks : ℕ) (b : Bool) (o : Option Pending) → op_at S w.0 r.pc ≡ op.Delay v ticks → pending_at s v.0 ≡ o
-        → Moves (Advance w) (delay_from_body S on v cpu ticks b o)
-    delays-acts v cpu ticks true o at so = Acts.asks w r (op.Delay v ticks) (event.DelaysDisabled v ticks) v.0 false false on is at (asking _ _ _ false false refl refl refl refl refl refl) (still-turns S on v.0)
-    delays-acts v cpu ticks false (Some p) at so =
+    -- a work item that its body names is placed on the CPU where the body runs
+    abbrev here : ℕ
+    here = local_cpu S r.pool
+
+    may-here : (v : WorkId) → (IsSetting S → v.0 < length S.works) → MayPlace S v.0 here
+    may-here v there = record { work_there = there; cpu_there = λ setting. local_cpu-in_range S r.pool setting.some }
+
+    delays-acts : (v : WorkId) (ticks : ℕ) (b : Bool) (o : Option Pending) → op_at S w.0 r.pc ≡ op.Delay v ticks → is_disabled s v.0 ≡ b → pending_at s v.0 ≡ o
+        → Moves (Advance w) (delay_from_body S on v here ticks b o)
+    delays-acts v ticks true o at off so = Acts.asks w r (op.Delay v ticks) (event.DelaysDisabled v ticks) v.0 false false on is at (asking _ _ _ false false refl refl refl refl refl refl) (still-turns S on v.0)
+    delays-acts v ticks false (Some p) at off so =
         Acts.asks w r (op.Delay v ticks) (event.Delays v ticks true) v.0 false false on is at (asking _ _ _ false false refl refl refl refl refl refl) (still-turns S on v.0)
-    delays-acts v cpu ticks false None at so =
-        Acts.asks w r (op.Delay v ticks) (event.Delays v ticks false) v.0 false true (place_after S on v.0 cpu ticks) is at (asking _ _ _ false true refl refl refl refl refl refl) (placed-turns S on v.0 cpu ticks (in-range _ at) so)
+    delays-acts v ticks false None at off so =
+        Acts.asks w r (op.Delay v ticks) (event.Delays v ticks false) v.0 false true (place_after S on v.0 here ticks) is at (asking _ _ _ false true refl refl refl refl refl refl)
+        (placed-turns S on v.0 here ticks (may-here v (in-range _ at)) off so)
 
-    mods-acts : (v : WorkId) (cpu ticks : ℕ) (b : Bool) (o : Option Pending) → op_at S w.0 r.pc ≡ op.Mod v ticks → pending_at s v.0 ≡ o
-        → Moves (Advance w) (mod_from_body S on v cpu ticks b o)
-    mods-acts v cpu ticks true o at so = Acts.asks w r (op.Mod v ticks) (event.ModsDisabled v ticks) v.0 false false on is at (asking _ _ _ false false refl refl refl refl refl refl) (still-turns S on v.0)
-    mods-acts v cpu ticks false o at so =
-        Acts.asks w r (op.Mod v ticks) (event.Mods v ticks (is_some o)) v.0 (is_some o) true (place_after S (taken_off S on v.0 o) v.0 cpu ticks) is at (asking _ _ _ (is_some o) true refl refl refl refl refl refl)
-        (modified-turns S on v.0 cpu ticks o (in-range _ at) so)
+    mods-acts : (v : WorkId) (ticks : ℕ) (b : Bool) (o : Option Pending) → op_at S w.0 r.pc ≡ op.Mod v ticks → is_disabled s v.0 ≡ b → pending_at s v.0 ≡ o
+        → Moves (Advance w) (mod_from_body S on v here ticks b o)
+    mods-acts v ticks true o at off so = Acts.asks w r (op.Mod v ticks) (event.ModsDisabled v ticks) v.0 false false on is at (asking _ _ _ false false refl refl refl refl refl refl) (still-turns S on v.0)
+    mods-acts v ticks false o at off so =
+        Acts.asks w r (op.Mod v ticks) (event.Mods v ticks (is_some o)) v.0 (is_some o) true (place_after S (taken_off S on v.0 o) v.0 here ticks) is at (asking _ _ _ (is_some o) true refl refl refl refl refl refl)
+        (modified-turns S on v.0 here ticks o (may-here v (in-range _ at)) off so)
 
     -- the end of a body
     ended-acts : (p : Pending) (b : Bool) → op_at S w.0 r.pc ≡ op.Finish → pending_at s w.0 ≡ Some p → is_deferred p.place ≡ b
@@ -163,10 +170,10 @@ module _ (S : ScenarioContents) (s : State) (pool : ℕ) (w : WorkId) where
     carries-out : (o : Op) → op_at S w.0 r.pc ≡ o → Moves (Advance w) (carry_out S s w.0 r o)
     carries-out (op.Burn ticks) at = Acts.burns w r ticks is at
     carries-out (op.Sleep ticks) at = Acts.sleeps w r ticks is at
-    carries-out (op.Queue v cpu) at = queues-acts v cpu (is_disabled s v.0) (pending_at s v.0) at refl
+    carries-out (op.Queue v cpu) at = queues-acts v cpu (is_disabled s v.0) (pending_at s v.0) at refl refl
     carries-out op.Finish at = finishes-acts (pending_at s w.0) at refl
-    carries-out (op.Delay v ticks) at = delays-acts v (local_cpu S r.pool) ticks (is_disabled s v.0) (pending_at s v.0) at refl
-    carries-out (op.Mod v ticks) at = mods-acts v (local_cpu S r.pool) ticks (is_disabled s v.0) (pending_at s v.0) at refl
+    carries-out (op.Delay v ticks) at = delays-acts v ticks (is_disabled s v.0) (pending_at s v.0) at refl refl
+    carries-out (op.Mod v ticks) at = mods-acts v ticks (is_disabled s v.0) (pending_at s v.0) at refl refl
     carries-out (op.Cancel v) at =
         let was = is_some (pending_at s v.0) in
         Acts.asks w r (op.Cancel v) (event.Cancels v was) v.0 was false (taken_off S on v.0 (pending_at s v.0)) is at (asking _ _ _ was false refl refl refl refl refl refl) (taken_off-turns S on v.0 (pending_at s v.0) refl)
@@ -260,23 +267,32 @@ both-granted : (a b : Option Refusal) → or_else a b ≡ None → (a ≡ None) 
 both-granted (Some why) b e = cc
 both-granted None b e = (refl, e)
 
-work-there : (S : ScenarioContents) (w : WorkId) (cpu : ℕ) → no_work_or_cpu S w cpu ≡ None → IsThere S w.0
-work-there S w cpu e setting =
-    ltb-true w.0 (length S.works) (granted (nat_lt w.0 (length S.works)) NoSuchWork (both-granted (no_work S w) (refuse_unless (nat_lt cpu S.cpus) NoSuchCpu) e).0)
+may-place : (S : ScenarioContents) (w : WorkId) (cpu : ℕ) → no_work_or_cpu S w cpu ≡ None → MayPlace S w.0 cpu
+may-place S w cpu e =
+    let there = both-granted (no_work S w) (refuse_unless (nat_lt cpu S.cpus) NoSuchCpu) e in
+    record {
+      work_there = λ setting. ltb-true w.0 (length S.works) (granted (nat_lt w.0 (length S.works)) NoSuchWork there.0);
+      cpu_there = λ setting. ltb-true cpu S.cpus (granted (nat_lt cpu S.cpus) NoSuchCpu there.1);
+    }
+
+is-enabled : (s : State) (w : WorkId) → while_enabled s w ≡ None → is_disabled s w.0 ≡ false
+is-enabled s w e = not-true (is_disabled s w.0) (granted (not (is_disabled s w.0)) Disabled e)
 
 module _ (S : ScenarioContents) (s : State) where
-  queues : (w : WorkId) (cpu : ℕ) (o : Option Pending) → IsThere S w.0 → pending_at s w.0 ≡ o → Is S s (instr.Queue w cpu) (queued S s w.0 cpu o)
-  queues w cpu (Some p) there is = silent S s (instr.Queue w cpu) refl reply.Already (told _ _ 0 false false refl refl refl)
-  queues w cpu None there is = Effect.answers s _ w.0 false true _ (Sets.nothing _ refl) (placed-turns S s w.0 cpu 0 there is) (told _ _ w.0 false true refl refl refl)
+  queues : (w : WorkId) (cpu : ℕ) (o : Option Pending) → MayPlace S w.0 cpu → is_disabled s w.0 ≡ false → pending_at s w.0 ≡ o → Is S s (instr.Queue w cpu) (queued S s w.0 cpu o)
+  queues w cpu (Some p) may enabled is = silent S s (instr.Queue w cpu) refl reply.Already (told _ _ 0 false false refl refl refl)
+  queues w cpu None may enabled is = Effect.answers s _ w.0 false true _ (Sets.nothing _ refl) (placed-turns S s w.0 cpu 0 may enabled is) (told _ _ w.0 false true refl refl refl)
 
-  delays : (w : WorkId) (cpu ticks : ℕ) (o : Option Pending) → IsThere S w.0 → pending_at s w.0 ≡ o → Is S s (instr.Delay w cpu ticks) (delayed S s w.0 cpu ticks o)
-  delays w cpu ticks (Some p) there is = silent S s (instr.Delay w cpu ticks) refl reply.Already (told _ _ 0 false false refl refl refl)
-  delays w cpu ticks None there is = Effect.answers s _ w.0 false true _ (Sets.nothing _ refl) (placed-turns S s w.0 cpu ticks there is) (told _ _ w.0 false true refl refl refl)
+  delays : (w : WorkId) (cpu ticks : ℕ) (o : Option Pending) → MayPlace S w.0 cpu → is_disabled s w.0 ≡ false → pending_at s w.0 ≡ o
+      → Is S s (instr.Delay w cpu ticks) (delayed S s w.0 cpu ticks o)
+  delays w cpu ticks (Some p) may enabled is = silent S s (instr.Delay w cpu ticks) refl reply.Already (told _ _ 0 false false refl refl refl)
+  delays w cpu ticks None may enabled is = Effect.answers s _ w.0 false true _ (Sets.nothing _ refl) (placed-turns S s w.0 cpu ticks may enabled is) (told _ _ w.0 false true refl refl refl)
 
-  mods : (w : WorkId) (cpu ticks : ℕ) (o : Option Pending) → IsThere S w.0 → pending_at s w.0 ≡ o → Is S s (instr.Mod w cpu ticks) (modified S s w.0 cpu ticks o)
-  mods w cpu ticks (Some p) there is =
-      Effect.answers s _ w.0 true true _ (Sets.nothing _ refl) (modified-turns S s w.0 cpu ticks (Some p) there is) (told _ _ w.0 true true refl refl refl)
-  mods w cpu ticks None there is = Effect.answers s _ w.0 false true _ (Sets.nothing _ refl) (placed-turns S s w.0 cpu ticks there is) (told _ _ w.0 false true refl refl refl)
+  mods : (w : WorkId) (cpu ticks : ℕ) (o : Option Pending) → MayPlace S w.0 cpu → is_disabled s w.0 ≡ false → pending_at s w.0 ≡ o
+      → Is S s (instr.Mod w cpu ticks) (modified S s w.0 cpu ticks o)
+  mods w cpu ticks (Some p) may enabled is =
+      Effect.answers s _ w.0 true true _ (Sets.nothing _ refl) (modified-turns S s w.0 cpu ticks (Some p) may enabled is) (told _ _ w.0 true true refl refl refl)
+  mods w cpu ticks None may enabled is = Effect.answers s _ w.0 false true _ (Sets.nothing _ refl) (placed-turns S s w.0 cpu ticks may enabled is) (told _ _ w.0 false true refl refl refl)
 
   cancels : (b : State) (i : Instr) (w : WorkId) (o : Option Pending) → Sets s i b → pending_at b w.0 ≡ o → cancelled_by i reply.Cancelled ≡ Some w.0 → Is S s i (cancelled S b w.0 o)
   cancels b i w (Some p) set is taken = Effect.answers b _ w.0 true false _ set (taken_off-turns S b w.0 (Some p) is) (told i _ w.0 true false refl taken refl)
@@ -287,9 +303,9 @@ module _ (S : ScenarioContents) (s : State) where
   synced w flush false = told _ _ w.0 false false refl refl refl
 
   does : (i : Instr) → operands S s i ≡ None → situation S s i ≡ None → Is S s i (effect S s i)
-  does (instr.Queue w cpu) fits may = queues w cpu (pending_at s w.0) (work-there S w cpu fits) refl
-  does (instr.Delay w cpu ticks) fits may = delays w cpu ticks (pending_at s w.0) (work-there S w cpu fits) refl
-  does (instr.Mod w cpu ticks) fits may = mods w cpu ticks (pending_at s w.0) (work-there S w cpu fits) refl
+  does (instr.Queue w cpu) fits may = queues w cpu (pending_at s w.0) (may-place S w cpu fits) (is-enabled s w may) refl
+  does (instr.Delay w cpu ticks) fits may = delays w cpu ticks (pending_at s w.0) (may-place S w cpu fits) (is-enabled s w may) refl
+  does (instr.Mod w cpu ticks) fits may = mods w cpu ticks (pending_at s w.0) (may-place S w cpu fits) (is-enabled s w may) refl
   does (instr.Cancel w) fits may = cancels s (instr.Cancel w) w (pending_at s w.0) (Sets.nothing _ refl) refl refl
   does (instr.CancelSync w) fits may =
       let was = is_some (pending_at s w.0) in Effect.gives (take_off S s w.0) w.0 was false _ _ refl (taken_off-turns S s w.0 (pending_at s w.0) refl) (synced w _ was)

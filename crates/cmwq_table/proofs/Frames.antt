@@ -8,7 +8,9 @@ use Rattle.cmwq_types.specs.declared.instr.Instr.{Instr}
 use Rattle.cmwq_types.specs.declared.instr.Instr.TheVariants as instr
 use Rattle.cmwq_types.specs.declared.moves.Move.{Move}
 use Rattle.cmwq_types.specs.declared.reply.Event.{Event}
+use Rattle.cmwq_types.specs.declared.reply.Refusal.{Refusal}
 use Rattle.cmwq_types.specs.declared.reply.Reply.{Reply}
+use Rattle.cmwq_types.specs.declared.reply.Reply.TheVariants as reply
 use Rattle.cmwq_table.specs.Counts.{burns, first_due, is_rescuer}
 use Rattle.cmwq_table.specs.Moves.{become_idle, begin_again, burned, first_moving, onward, retire, with_pending, with_running}
 use Rattle.cmwq_table.specs.State.{State, depth_at}
@@ -35,7 +37,7 @@ long-then s t u a b = record { pending = b.pending ∙ a.pending; running = b.ru
 then : (s t u : State) → Same s t → Same t u → Same s u
 then s t u a b = record { time = b.time ∙ a.time; depth = b.depth ∙ a.depth; long = long-then s t u a.long b.long }
 
-fills-same : (S : ScenarioContents) (s t : State) → Fills S s t → Same s t
+pub fills-same : (S : ScenarioContents) (s t : State) → Fills S s t → Same s t
 fills-same S s t Fills.stays = record { time = refl; depth = refl; long = record { pending = refl; running = refl; idle = refl } }
 fills-same S s t (Fills.more u queue pool w filling first room) =
     then s u t (fills-same S s u filling) (record { time = refl; depth = refl; long = record { pending = length-set u.pending w _; running = refl; idle = refl } })
@@ -43,14 +45,14 @@ fills-same S s t (Fills.more u queue pool w filling first room) =
 off-same : (s : State) (w : ℕ) → Same s (with_pending s w None)
 off-same s w = record { time = refl; depth = refl; long = record { pending = length-set s.pending w _; running = refl; idle = refl } }
 
-turn-same : (S : ScenarioContents) (s t : State) (w : ℕ) (took put : Bool) → Turn S s w took put t → Same s t
+pub turn-same : (S : ScenarioContents) (s t : State) (w : ℕ) (took put : Bool) → Turn S s w took put t → Same s t
 turn-same S s t w took put (Turn.fills u filling) = fills-same S s u filling
-turn-same S s t w took put (Turn.puts at there is) = record { time = refl; depth = refl; long = record { pending = length-set s.pending w _; running = refl; idle = refl } }
-turn-same S s t w took put (Turn.fires p at is) =
+turn-same S s t w took put (Turn.puts cpu ticks may enabled is) = record { time = refl; depth = refl; long = record { pending = length-set s.pending w _; running = refl; idle = refl } }
+turn-same S s t w took put (Turn.fires p due cpu is at) =
     let off = with_pending s w None in
     then s off t (off-same s w) (record { time = refl; depth = refl; long = record { pending = length-set off.pending w _; running = refl; idle = refl } })
 turn-same S s t w took put (Turn.takes p u is filling) = (let off = with_pending s w None in then s off u (off-same s w) (fills-same S off u filling))
-turn-same S s t w took put (Turn.changes p u at there is filling) =
+turn-same S s t w took put (Turn.changes p u cpu ticks may enabled is filling) =
     let off = with_pending s w None in
     then s u t (then s off u (off-same s w) (fills-same S off u filling)) (record { time = refl; depth = refl; long = record { pending = length-set u.pending w _; running = refl; idle = refl } })
 
@@ -63,7 +65,7 @@ retired-same s w r = at (is_rescuer r.worker) where
   at true = runs-same s w None
   at false = record { time = refl; depth = refl; long = record { pending = refl; running = length-set s.running w None; idle = length-set s.idle _ _ } }
 
-acts-same : (S : ScenarioContents) (s t : State) (pool : ℕ) (move : Move) (e : Event) → Acts S s pool move e t → Same s t
+pub acts-same : (S : ScenarioContents) (s t : State) (pool : ℕ) (move : Move) (e : Event) → Acts S s pool move e t → Same s t
 acts-same S s t pool move e (Acts.starts w worker p free is) =
     record { time = refl; depth = refl; long = record { pending = length-set s.pending w.0 _; running = length-set s.running w.0 _; idle = length-set s.idle _ _ } }
 acts-same S s t pool move e (Acts.rescues w p is) = record { time = refl; depth = refl; long = record { pending = length-set s.pending w.0 _; running = length-set s.running w.0 _; idle = refl } }
@@ -99,7 +101,7 @@ pub record Frame (S : ScenarioContents) (s : State) (i : Instr) (t : State) : Ty
 framed : (S : ScenarioContents) (s t : State) (i : Instr) → sets_depth i ≡ false → Same s t → Frame S s i t
 framed S s t i shallow same = record { time = inl same.time; depth = same.depth ∙ left s i shallow; long = same.long }
 
-sets-frame : (S : ScenarioContents) (s b : State) (i : Instr) → Sets s i b → (b.time ≡ s.time) × (b.depth ≡ depths_then s i) × IsAsLong s b
+pub sets-frame : (S : ScenarioContents) (s b : State) (i : Instr) → Sets s i b → (b.time ≡ s.time) × (b.depth ≡ depths_then s i) × IsAsLong s b
 unfolding depths_then
 sets-frame S s b i (Sets.nothing i1 shallow) = (refl, left s i shallow, record { pending = refl; running = refl; idle = refl })
 sets-frame S s b i (Sets.limits q max) = (refl, refl, record { pending = refl; running = refl; idle = refl })
@@ -127,12 +129,17 @@ effect-frame S s t i r (Effect.gives u w took put f told shallow turn answer) =
     let same = turn-same S s u w took put turn in
     record { time = inl same.time; depth = same.depth ∙ left s i shallow; long = record { pending = same.long.pending; running = same.long.running; idle = same.long.idle } }
 
-does-frame : (S : ScenarioContents) (s t : State) (i : Instr) (r : Reply) → Does S s i t r → (Frame S s i t) ⊎ (t ≡ s)
-does-frame S s t i r (Does.refused why) = inr refl
+-- The instruction was refused, and changed nothing.
+pub record IsRefused (s t : State) (r : Reply) : Type 0 where
+  pub why : Refusal
+  pub told : r ≡ reply.Refused why
+  pub same : t ≡ s
+
+does-frame : (S : ScenarioContents) (s t : State) (i : Instr) (r : Reply) → Does S s i t r → (Frame S s i t) ⊎ (IsRefused s t r)
+does-frame S s t i r (Does.refused why) = inr (record { why = why; told = refl; same = refl })
 does-frame S s t i r (Does.done u told spent fits effect) =
     let frame = effect-frame S s u i told effect in
     inl (record { time = frame.time; depth = frame.depth; long = record { pending = frame.long.pending; running = frame.long.running; idle = frame.long.idle } })
 
--- where it isn't refused
-pub table-frame : (S : ScenarioContents) (s : State) (i : Instr) → (Frame S s i (table S s i).0) ⊎ ((table S s i).0 ≡ s)
+pub table-frame : (S : ScenarioContents) (s : State) (i : Instr) → (Frame S s i (table S s i).0) ⊎ (IsRefused s (table S s i).0 (table S s i).1)
 table-frame S s i = does-frame S s (table S s i).0 i (table S s i).1 (table-does S s i)

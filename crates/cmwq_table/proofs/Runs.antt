@@ -79,11 +79,11 @@ fills-keeps S s t (Fills.more u queue pool w filling first room) =
 
 turn-keeps : (S : ScenarioContents) (s t : State) (w : ℕ) (took put : Bool) → Turn S s w took put t → Keeps s t
 turn-keeps S s t w took put (Turn.fills u filling) = fills-keeps S s u filling
-turn-keeps S s t w took put (Turn.puts at there is) = record { running = refl; time = refl; next = omega arith }
-turn-keeps S s t w took put (Turn.fires p at is) = record { running = refl; time = refl; next = omega arith }
+turn-keeps S s t w took put (Turn.puts cpu ticks may enabled is) = record { running = refl; time = refl; next = omega arith }
+turn-keeps S s t w took put (Turn.fires p due cpu is at) = record { running = refl; time = refl; next = omega arith }
 turn-keeps S s t w took put (Turn.takes p u is filling) =
     let kept = fills-keeps S (with_pending s w None) u filling in record { running = kept.running; time = kept.time; next = kept.next }
-turn-keeps S s t w took put (Turn.changes p u at there is filling) =
+turn-keeps S s t w took put (Turn.changes p u cpu ticks may enabled is filling) =
     let kept = fills-keeps S (with_pending s w None) u filling in record { running = kept.running; time = kept.time; next = omega (arith, kept.next) }
 
 retired : (s : State) (w : ℕ) (r : Running) → Keeps (with_running s w None) (retire s w r)

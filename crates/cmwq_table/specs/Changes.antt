@@ -1,5 +1,5 @@
 -- What an instruction changes, by kinds of change, and what its reply says of that: the table seen from the work items.
-use Rattle.std.specs.Prelude.{◌≡◌, ℕ, ◌+◌, ◌-◌, ◌<◌, Bool, true, false, ◌&&◌, length, Some, None, is_some, slice_set, ◌==◌}
+use Rattle.std.specs.Prelude.{◌≡◌, ℕ, zero, suc, if◌then◌else◌, ◌+◌, ◌-◌, ◌<◌, Bool, true, false, ◌&&◌, length, Some, None, is_some, slice_set, ◌==◌}
 use Rattle.cmwq_types.specs.Contents.{ScenarioContents}
 use Rattle.cmwq_types.specs.Scenario.{op_at, pool_count, queue_of}
 use Rattle.cmwq_types.specs.Setting.{IsSetting}
@@ -14,15 +14,15 @@ use Rattle.cmwq_types.specs.declared.reply.Event.{Event}
 use Rattle.cmwq_types.specs.declared.reply.Event.TheVariants as event
 use Rattle.cmwq_types.specs.declared.reply.Mode.TheVariants.{Runnable, Asleep}
 use Rattle.cmwq_types.specs.declared.reply.Place.{Place}
-use Rattle.cmwq_types.specs.declared.reply.Place.TheVariants.{Deferred}
+use Rattle.cmwq_types.specs.declared.reply.Place.TheVariants.{Deferred, Inactive, Listed, Timer}
 use Rattle.cmwq_types.specs.declared.reply.Refusal.{Refusal}
 use Rattle.cmwq_types.specs.declared.reply.Reply.{Reply}
 use Rattle.cmwq_types.specs.declared.reply.Reply.TheVariants as reply
 use Rattle.cmwq_types.specs.declared.scenario.Op.{Op}
 use Rattle.cmwq_types.specs.declared.scenario.Op.TheVariants as op
 use Rattle.cmwq_table.specs.Counts.{first_due, first_inactive, free_worker, has_free_rescuer, has_room, is_deferred, is_listed, is_runnable, is_slept, may_start, pends, runs}
-use Rattle.cmwq_table.specs.Moves.{begin_again, begin_on, enlist, first_moving, moved_work, newborn, next_move, onward, retire, started_on, taking, tick, with_depth, with_flush, with_pending, with_pressed, with_running}
-use Rattle.cmwq_table.specs.State.{State, depth_at, pending_at, running_at}
+use Rattle.cmwq_table.specs.Moves.{begin_again, begin_on, enlist, first_moving, moved_work, newborn, next_move, onward, pool_for, retire, started_on, taking, tick, with_depth, with_flush, with_pending, with_pressed, with_running}
+use Rattle.cmwq_table.specs.State.{State, depth_at, is_disabled, pending_at, running_at}
 use Rattle.cmwq_table.specs.Table.{operands, table}
 use Rattle.cmwq_table.specs.Told.{burn_of, cancelled_by, event_of, is_end, is_start, queued_in, requested_by, sleep_of, taken_off_in, work_if}
 use Rattle.cmwq_table.specs.declared.state.FlushTarget.{FlushTarget}
@@ -78,17 +78,25 @@ pub data Fills (S : ScenarioContents) (s : State) : State → Type 0 where
 abbrev pub bear : State → ℕ → Place → State
 bear s w at = taking (with_pending s w (newborn s at))
 
--- the work item is declared, if the scenario is valid
-abbrev pub IsThere : ScenarioContents → ℕ → Type 0
-IsThere S w = IsSetting S → w < length S.works
+-- the place that a request on this CPU gives the work item: a timer, or, without a delay, a place in its pool
+abbrev pub place_for : ScenarioContents → State → ℕ → ℕ → ℕ → Place
+place_for S s w cpu zero = if has_room S s (queue_of S w) (pool_for S s w cpu) then Listed (pool_for S s w cpu) else Inactive (pool_for S s w cpu)
+place_for S s w cpu (suc ticks) = Timer (s.time + suc ticks) cpu
+
+-- If the scenario is valid, the work item and the CPU are declared.
+pub record MayPlace (S : ScenarioContents) (w cpu : ℕ) : Type 0 where
+  pub work_there : IsSetting S → w < length S.works
+  pub cpu_there : IsSetting S → cpu < S.cpus
 
 -- What happens to the pending half of one work item: whether it was taken off, and whether a new one was placed.
 pub data Turn (S : ScenarioContents) (s : State) (w : ℕ) : Bool → Bool → State → Type 0 where
   fills : (t : State) → Fills S s t → Turn S s w false false t
-  puts : (at : Place) → IsThere S w → pending_at s w ≡ None → Turn S s w false true (bear s w at)
+  puts : (cpu ticks : ℕ) → MayPlace S w cpu → is_disabled s w ≡ false → pending_at s w ≡ None → Turn S s w false true (bear s w (place_for S s w cpu ticks))
   takes : (p : Pending) (t : State) → pending_at s w ≡ Some p → Fills S (with_pending s w None) t → Turn S s w true false t
-  fires : (p : Pending) (at : Place) → pending_at s w ≡ Some p → Turn S s w false false (bear (with_pending s w None) w at)
-  changes : (p : Pending) (t : State) (at : Place) → IsThere S w → pending_at s w ≡ Some p → Fills S (with_pending s w None) t → Turn S s w true true (bear t w at)
+  fires : (p : Pending) (due cpu : ℕ) → pending_at s w ≡ Some p → p.place ≡ Timer due cpu
+      → Turn S s w false false (bear (with_pending s w None) w (place_for S (with_pending s w None) w cpu 0))
+  changes : (p : Pending) (t : State) (cpu ticks : ℕ) → MayPlace S w cpu → is_disabled s w ≡ false → pending_at s w ≡ Some p → Fills S (with_pending s w None) t
+      → Turn S s w true true (bear t w (place_for S t w cpu ticks))
 
 -- the operation only queues or takes off the work item v, and its event says so
 pub record IsAsking (o : Op) (e : Event) (v : ℕ) (took put : Bool) : Type 0 where

@@ -6,12 +6,13 @@ use Rattle.cmwq_types.specs.Scenario.{queue_of}
 use Rattle.cmwq_types.specs.declared.instr.Instr.{Instr}
 use Rattle.cmwq_types.specs.declared.reply.Place.{Place}
 use Rattle.cmwq_types.specs.declared.reply.Place.TheVariants.{Timer, Inactive, Listed, Deferred}
+use Rattle.cmwq_types.specs.declared.reply.Reply.{Reply}
 use Rattle.cmwq_table.specs.Counts.{first_inactive, has_room}
 use Rattle.cmwq_table.specs.Moves.{enlist, fill, fill_from, fill_one, fill_times, taken_off, with_pending}
 use Rattle.cmwq_table.specs.State.{State, start}
 use Rattle.cmwq_table.specs.Table.{after_all, run, table}
 use Rattle.cmwq_table.specs.declared.state.Pending.{Pending}
-use Rattle.cmwq_table.proofs.Frames.{Frame, table-frame}
+use Rattle.cmwq_table.proofs.Frames.{Frame, IsRefused, table-frame}
 
 -- as many work items may be pending
 abbrev Long : State → State → Type 0
@@ -39,12 +40,12 @@ pub taken_off-long : (S : ScenarioContents) (s : State) (w : ℕ) (o : Option Pe
 taken_off-long S s w (Some p) = fill_from-long S (queue_of S w) p.place (with_pending s w None) ∙ length-set s.pending w None
 taken_off-long S s w None = refl
 
-framed-long : (S : ScenarioContents) (s t : State) (i : Instr) → (Frame S s i t) ⊎ (t ≡ s) → Long t s
-framed-long S s t i (inl frame) = frame.long.pending
-framed-long S s t i (inr same) = ap (λ (u : State). length u.pending) same
+framed-long : (S : ScenarioContents) (s t : State) (i : Instr) (r : Reply) → (Frame S s i t) ⊎ (IsRefused s t r) → Long t s
+framed-long S s t i r (inl frame) = frame.long.pending
+framed-long S s t i r (inr refused) = ap (λ (u : State). length u.pending) refused.same
 
 table-long : (S : ScenarioContents) (s : State) (i : Instr) → Long (table S s i).0 s
-table-long S s i = framed-long S s (table S s i).0 i (table-frame S s i)
+table-long S s i = framed-long S s (table S s i).0 i (table S s i).1 (table-frame S s i)
 
 all-long : (S : ScenarioContents) (s : State) (instrs : List Instr) → Long (after_all S s instrs) s
 all-long S s [] = refl

@@ -1,5 +1,7 @@
-//! Laws on single lines of the instruction table: how often a work is disabled, in which pool it is placed, and what going on
-//! and repeating come to.
+//! Laws of single rows of the instruction table: how often a work item is disabled, its pool, and
+//! instructions that repeat.
+//!
+//! Proved: laws: disables and enables add up. They give the pool of a placed work item, and the effect of a body's `delay`, `mod` and `cancel`.
 #![tactic(auto)]
 
 pub mod examples;

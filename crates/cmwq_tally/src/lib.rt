@@ -1,4 +1,7 @@
-//! How many works stand in each of some classes, kept up to date as works change their class.
+//! Counts of work items by class, updated when a work item changes its class.
+//!
+//! Proved: the counts are the sums over the classes.
+//! Not proved: their speed.
 #![tactic(auto)]
 
 pub mod laws;

@@ -1,4 +1,6 @@
-//! What is done with an input. Types alone.
+//! Commands on one input. Types alone.
+//!
+//! Proved: nothing. It has types only: what a command does with an input.
 #![tactic(auto)]
 
 mod task;

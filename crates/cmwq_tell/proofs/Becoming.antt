@@ -19,7 +19,7 @@ use Rattle.cmwq_table.specs.declared.state.Pending.{Pending}
 use Rattle.cmwq_table.specs.declared.state.Running.{Running}
 use Rattle.cmwq_types.specs.declared.reply.Event.{Event}
 use Rattle.cmwq_types.specs.declared.reply.Reply.{Reply}
-use Rattle.cmwq_table.specs.Changes.{Acts, Effect, Fills, Sets, Turn}
+use Rattle.cmwq_table.specs.Changes.{Acts, Effect, Fills, Sets, Turn, place_for}
 use Rattle.cmwq_table.specs.Changes as changes
 use Rattle.cmwq_table.proofs.Doings.{table-does}
 
@@ -153,11 +153,11 @@ fills-moves S s t (Fills.more u queue pool w filling is room) =
 
 turn-moves : (S : ScenarioContents) (s t : State) (w : ℕ) (took put : Bool) → Turn S s w took put t → Moves s t
 turn-moves S s t w took put (Turn.fills u filling) = fills-moves S s u filling
-turn-moves S s t w took put (Turn.puts at there is) = bear s w at
-turn-moves S s t w took put (Turn.fires p at is) = (let off = with_pending s w None in both s off t (unpend s w) (bear off w at))
+turn-moves S s t w took put (Turn.puts cpu ticks may enabled is) = bear s w (place_for S s w cpu ticks)
+turn-moves S s t w took put (Turn.fires p due cpu is at) = (let off = with_pending s w None in both s off t (unpend s w) (bear off w (place_for S off w cpu 0)))
 turn-moves S s t w took put (Turn.takes p u is filling) = (let off = with_pending s w None in both s off u (unpend s w) (fills-moves S off u filling))
-turn-moves S s t w took put (Turn.changes p u at there is filling) =
-    let off = with_pending s w None in both s u t (both s off u (unpend s w) (fills-moves S off u filling)) (bear u w at)
+turn-moves S s t w took put (Turn.changes p u cpu ticks may enabled is filling) =
+    let off = with_pending s w None in both s u t (both s off u (unpend s w) (fills-moves S off u filling)) (bear u w (place_for S u w cpu ticks))
 
 retired-moves : (s : State) (w : ℕ) (r : Running) → Moves s (retire s w r)
 retired-moves s w r = at (is_rescuer r.worker) where

@@ -1,4 +1,6 @@
-//! `run --tell`: a run that tells each instruction, its reply, and what it changed that the reply doesn't tell; and once what has come.
+//! `run --tell`: each instruction, its reply, and the changes that the reply doesn't mention.
+//!
+//! Proved: `run --tell` writes exactly the defined bytes, or returns the fault.
 #![tactic(auto)]
 
 mod change;

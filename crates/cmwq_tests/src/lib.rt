@@ -1,5 +1,7 @@
-//! Tests of what no clause says and no transcript shows: the lock under load, callers and actors in threads of their own, checkpoints,
-//! worked examples of copies, lists, timers and the lock.
+//! Tests of what no clause says and no transcript shows: the lock under load, callers in threads,
+//! checkpoints, and worked examples of copies, lists, timers and the lock.
+//!
+//! Proved: nothing. It has tests.
 #![tactic(auto)]
 
 #[cfg(test)]

@@ -1,4 +1,8 @@
-//! The timers of delayed works, in the order in which they fire, and alarms, which are timers of which only the tick is known.
+//! The timers of delayed work items, in the order in which they fire; and alarms, which are timers that
+//! keep only their tick.
+//!
+//! Proved: timers and alarms are finite maps with their first elements.
+//! Not proved: their speed.
 #![tactic(auto)]
 
 mod alarm_ranks;

@@ -1,4 +1,6 @@
-//! Where the time of a run's instances went, told line by line.
+//! `times`: where the time of a run's instances went, one line each.
+//!
+//! Proved: `times` writes exactly the defined bytes, or returns the fault.
 #![tactic(auto)]
 
 mod clerk;

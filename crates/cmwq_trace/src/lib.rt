@@ -1,5 +1,8 @@
-//! `trace --json`: a run in the trace event format, which Perfetto's page and `chrome://tracing` open; and `trace --lines`: a line of JSON for
-//! each line that it prints, for `jq` and data frames.
+//! `trace --json`: a run in the trace event format, for Perfetto and `chrome://tracing`; and `trace
+//! --lines`: one line of JSON per printed line.
+//!
+//! Proved: `trace --json` and `trace --lines` write exactly the defined bytes, or return the fault. It has worked examples.
+//! Not proved: what a viewer shows.
 #![tactic(auto)]
 
 pub mod examples;

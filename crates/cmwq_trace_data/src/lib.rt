@@ -1,4 +1,7 @@
-//! `trace.dat`, version 6: the file of a run's events that `trace-cmd report` and KernelShark open.
+//! `trace.dat`, version 6: the file that `trace-cmd report` and KernelShark open.
+//!
+//! Proved: `trace_data`: the file for `trace-cmd` has the bytes of its definition.
+//! Not proved: what the readers of the file show.
 #![tactic(auto)]
 
 mod entry;

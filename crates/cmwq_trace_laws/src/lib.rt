@@ -1,6 +1,7 @@
-//! What one may believe of a run's trace, of its phases, its events and the file of these, without reading how they are made up.
+//! Laws of a run's trace: its phases, its events, and the file of these. Each function's contract is a
+//! law, and its body is empty. No other crate depends on this one.
 //!
-//! Each function's contract is a law. The functions do nothing: they carry the laws. No other crate stands on this one.
+//! Proved: laws: no phase is empty, and phases of one thread don't overlap. Phases that burn have the ticks of the body. Time never falls in the events, and executions of one task don't overlap. Reading the file gives the events of the run again.
 #![tactic(auto)]
 
 pub mod events;

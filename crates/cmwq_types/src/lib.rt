@@ -1,5 +1,7 @@
-//! What a scenario of the workqueue emulator says, what may be asked of its machine, and what the
-//! machine answers.
+//! The data types: scenarios, instructions, and the replies of a machine.
+//!
+//! Proved: `Scenario::check` returns the first fault of a scenario, or none. `copy` returns an equal scenario. An instruction is its word and its operands.
+//! Not proved: the texts of faults.
 #![tactic(auto)]
 
 mod by_number;

@@ -1,4 +1,7 @@
-//! The verdict of a scenario's text, for editors and for people: that it is good, or where its first fault is and why it is one.
+//! The verdict on a scenario's text, for editors and for people: the text is good, or its first fault
+//! with place and reason.
+//!
+//! Proved: `verdict` gives the line, column and word of the first fault, and the words that fit there. It also gives the word that was probably meant, or how the line is written.
 #![tactic(auto)]
 
 mod cures;

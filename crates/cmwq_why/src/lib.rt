@@ -1,4 +1,6 @@
-//! Why a work doesn't get on, and what a flush waits for, asked of a machine.
+//! Why a work item waits, and what a flush waits for, computed from a machine.
+//!
+//! Proved: the reasons of a work item, and the work items that a flush waits for, over any machine.
 #![tactic(auto)]
 
 mod blame;

@@ -1,4 +1,8 @@
-//! What changes the line of a work, and what leaves it as it is; and worked examples of these lines. No other crate stands on this one.
+//! Laws on which instructions change a work item's line of `why`, and worked examples of these lines.
+//! No other crate depends on this one.
+//!
+//! Proved: laws: which steps leave the line of a work item as it is.
+//! Not proved: anything about steps that start or finish a work item.
 #![tactic(auto)]
 
 pub mod examples;

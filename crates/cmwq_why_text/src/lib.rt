@@ -1,4 +1,6 @@
-//! Why a work doesn't get on, as text.
+//! Why a work item waits, as text.
+//!
+//! Proved: the line of a reason has the bytes of its definition.
 #![tactic(auto)]
 
 mod appending;
