@@ -7,16 +7,21 @@ use Rattle.std.proofs.lemmas.List.{get_or_past}
 use Rattle.std.specs.List.{list_any}
 use Rattle.std.specs.Str.{bytes_eq}
 use Rattle.cmwq_types.specs.Contents.{ScenarioContents, WorkContents}
-use Rattle.cmwq_types.specs.Faults.{IsValid, actor_fault, body_fault, counts_fault, fault_if, fault_unless, first_along, fits_flags, is_body, numbers_fault, op_fault, or_else, queue_fault, unknown_work, within, work_fault}
+use Rattle.cmwq_types.specs.Faults.{IsValid, actor_fault, body_fault, counts_fault, fault_if, fault_unless, fields_fault, first_along, fits_flags, is_body, numbers_fault, op_fault, or_else, queue_fault, unknown_work, within, work_fault}
+use Rattle.cmwq_types.specs.Fields.{work_id}
+use Rattle.cmwq_types.specs.Operations.{op_fields_of, op_shape_of, op_word_of}
 use Rattle.cmwq_types.specs.Scenario.{is_unbound, local_cpu, plain_flags, work_at}
 use Rattle.cmwq_types.specs.declared.check.Fault.{Fault}
 use Rattle.cmwq_types.specs.declared.check.Fault.TheVariants.{Range, TooMany, Duplicate, Unknown, BadBody, BadFlags}
+use Rattle.cmwq_types.specs.declared.fields.Fields.{Fields}
+use Rattle.cmwq_types.specs.declared.fields.Shape.{Shape}
+use Rattle.cmwq_types.specs.declared.fields.Shape.TheVariants as shapes
 use Rattle.cmwq_types.specs.declared.instr.WorkId.{WorkId}
 use Rattle.cmwq_types.specs.declared.limits.TheConstants.{MAX_ACTORS, MAX_CPUS, MAX_FLUSHES, MAX_MAX_ACTIVE, MAX_OPS, MAX_QUEUES, MAX_STEPS, MAX_TICKS, MAX_WORKERS, MAX_WORKS}
 use Rattle.cmwq_types.specs.declared.scenario.Op.{Op}
 use Rattle.cmwq_types.specs.declared.scenario.Op.TheVariants as op
 use Rattle.cmwq_types.specs.declared.scenario.QueueDecl.{QueueDecl}
-use Rattle.cmwq_types.specs.Setting.{IsOneIfOrdered, IsOpInRange, IsPcInRange, IsSetting}
+use Rattle.cmwq_types.specs.Setting.{AreInRange, IsOneIfOrdered, IsOpInRange, IsPcInRange, IsSetting}
 
 -- no first fault of two: neither
 neither : (a b : Option Fault) → or_else a b ≡ None → (a ≡ None) × (b ≡ None)
@@ -51,28 +56,22 @@ local_cpu-in_range S pool some = local-below S.cpus pool (is_unbound S pool) som
 work-known : (S : ScenarioContents) (work : WorkId) → unknown_work S work ≡ None → work.0 < length S.works
 work-known S work e = ltb-true work.0 (length S.works) (passed (nat_lt work.0 (length S.works)) Unknown e)
 
+fields-in_range : (S : ScenarioContents) (shape : Shape) (f : Fields) → fields_fault S shape f ≡ None → AreInRange S shape f
+fields-in_range S shapes.Work f e = work-known S (work_id f.id) e
+fields-in_range S shapes.WorkCpu f e =
+    let there = nat_lt f.cpu S.cpus in
+    let both = neither (unknown_work S (work_id f.id)) (fault_unless there Range) e in
+    (work-known S (work_id f.id) both.0, ltb-true f.cpu S.cpus (passed there Range both.1))
+fields-in_range S shapes.WorkTicks f e =
+    work-known S (work_id f.id) (neither (unknown_work S (work_id f.id)) (fault_unless (nat_le f.number MAX_TICKS) Range) e).0
+fields-in_range S _ f e = tt
+
 op-in_range : (S : ScenarioContents) (o : Op) → op_fault S o ≡ None → IsOpInRange S o
-op-in_range S (op.Burn ticks) e = tt
-op-in_range S (op.Sleep ticks) e = tt
-op-in_range S (op.Queue work cpu) e =
-    let there = nat_lt cpu S.cpus in
-    let both = neither (unknown_work S work) (fault_unless there Range) e in
-    (work-known S work both.0, ltb-true cpu S.cpus (passed there Range both.1))
-op-in_range S op.Finish e = tt
-op-in_range S (op.Delay work ticks) e =
-    work-known S work (neither (unknown_work S work) (fault_unless (nat_le ticks MAX_TICKS) Range) e).0
-op-in_range S (op.Mod work ticks) e =
-    work-known S work (neither (unknown_work S work) (fault_unless (nat_le ticks MAX_TICKS) Range) e).0
-op-in_range S (op.Cancel work) e = work-known S work e
+op-in_range S o e = fields-in_range S (op_shape_of (op_word_of o)) (op_fields_of o) e
 
 pc-in_range : (o : Op) (pc : ℕ) → pc < MAX_OPS → IsPcInRange o pc
-pc-in_range (op.Burn ticks) pc h = h
-pc-in_range (op.Sleep ticks) pc h = h
-pc-in_range (op.Queue work cpu) pc h = h
 pc-in_range op.Finish pc h = tt
-pc-in_range (op.Delay work ticks) pc h = h
-pc-in_range (op.Mod work ticks) pc h = h
-pc-in_range (op.Cancel work) pc h = h
+pc-in_range _ pc h = h
 
 -- of a body that isn't too long
 ends-in_range : (body : List Op) → length body ≤ MAX_OPS → (pc : ℕ) → IsPcInRange (slice_index_or body pc op.Finish) pc

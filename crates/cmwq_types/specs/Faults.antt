@@ -3,10 +3,12 @@ use Rattle.std.specs.Prelude.{◌≡◌, ℕ, ◌-◌, Bool, true, false, ◌&&�
 use Rattle.std.specs.List.{list_any}
 use Rattle.std.specs.Str.{bytes_eq}
 use Rattle.cmwq_types.specs.Contents.{ScenarioContents, WorkContents, ActorContents}
-use Rattle.cmwq_types.specs.Fields.{fields_of, shape_of, word_of}
+use Rattle.cmwq_types.specs.Fields.{fields_of, shape_of, word_of, work_id}
 pub use Rattle.cmwq_types.specs.First.{or_else}
+use Rattle.cmwq_types.specs.Operations.{op_fields_of, op_shape_of, op_word_of}
 use Rattle.cmwq_types.specs.declared.check.Fault.{Fault}
 use Rattle.cmwq_types.specs.declared.check.Fault.TheVariants.{Range, TooMany, Duplicate, Unknown, BadBody, BadFlags}
+use Rattle.cmwq_types.specs.declared.fields.Fields.{Fields}
 use Rattle.cmwq_types.specs.declared.fields.Shape.{Shape}
 use Rattle.cmwq_types.specs.declared.fields.Shape.TheVariants as shape
 use Rattle.cmwq_types.specs.declared.instr.Instr.{Instr}
@@ -60,12 +62,7 @@ queue_fault before queue =
 
 abbrev pub is_finish : Op → Bool
 is_finish op.Finish = true
-is_finish (op.Burn ticks) = false
-is_finish (op.Sleep ticks) = false
-is_finish (op.Queue work cpu) = false
-is_finish (op.Delay work ticks) = false
-is_finish (op.Mod work ticks) = false
-is_finish (op.Cancel work) = false
+is_finish other = false
 
 abbrev pub is_some_finish : Option Op → Bool
 is_some_finish (Some last) = is_finish last
@@ -79,14 +76,16 @@ is_body body = is_some_finish (slice_get body (length body - 1)) && (count_by is
 abbrev pub unknown_work : ScenarioContents → WorkId → Option Fault
 unknown_work s work = fault_unless (nat_lt work.0 (length s.works)) Unknown
 
+-- the fault of an operation's operands
+abbrev pub fields_fault : ScenarioContents → Shape → Fields → Option Fault
+fields_fault s shape.Ticks f = fault_unless (within 1 MAX_TICKS f.number) Range
+fields_fault s shape.Work f = unknown_work s (work_id f.id)
+fields_fault s shape.WorkCpu f = or_else (unknown_work s (work_id f.id)) (fault_unless (nat_lt f.cpu s.cpus) Range)
+fields_fault s shape.WorkTicks f = or_else (unknown_work s (work_id f.id)) (fault_unless (nat_le f.number MAX_TICKS) Range)
+fields_fault s other f = None
+
 abbrev pub op_fault : ScenarioContents → Op → Option Fault
-op_fault s (op.Burn ticks) = fault_unless (within 1 MAX_TICKS ticks) Range
-op_fault s (op.Sleep ticks) = fault_unless (within 1 MAX_TICKS ticks) Range
-op_fault s (op.Queue work cpu) = or_else (unknown_work s work) (fault_unless (nat_lt cpu s.cpus) Range)
-op_fault s op.Finish = None
-op_fault s (op.Delay work ticks) = or_else (unknown_work s work) (fault_unless (nat_le ticks MAX_TICKS) Range)
-op_fault s (op.Mod work ticks) = or_else (unknown_work s work) (fault_unless (nat_le ticks MAX_TICKS) Range)
-op_fault s (op.Cancel work) = unknown_work s work
+op_fault s op = fields_fault s (op_shape_of (op_word_of op)) (op_fields_of op)
 
 abbrev pub body_fault : ScenarioContents → List Op → Option Fault
 body_fault s body =
@@ -102,15 +101,13 @@ work_fault s before work =
 
 -- the work or queue of this number is declared, where the shape has one
 abbrev pub is_declared : ScenarioContents → Shape → ℕ → Bool
-is_declared s shape.Alone id = true
 is_declared s shape.Work id = nat_lt id (length s.works)
 is_declared s shape.WorkCpu id = nat_lt id (length s.works)
+is_declared s shape.WorkTicks id = nat_lt id (length s.works)
 is_declared s shape.WorkCpuTicks id = nat_lt id (length s.works)
 is_declared s shape.Queue id = nat_lt id (length s.queues)
 is_declared s shape.QueueNumber id = nat_lt id (length s.queues)
-is_declared s shape.Pool id = true
-is_declared s shape.Flush id = true
-is_declared s shape.Time id = true
+is_declared s other id = true
 
 abbrev pub names_declared : ScenarioContents → Instr → Bool
 names_declared s instr = is_declared s (shape_of (word_of instr)) (fields_of instr).id

@@ -136,8 +136,10 @@ instr_of mnemonic.Quiet f = instr.Quiet
 -- the operands that a shape has
 abbrev pub used : Shape → Fields → Fields
 used shape.Alone f = fields 0 0 0
+used shape.Ticks f = fields 0 0 f.number
 used shape.Work f = fields 0 f.id 0
 used shape.WorkCpu f = fields f.cpu f.id 0
+used shape.WorkTicks f = fields 0 f.id f.number
 used shape.WorkCpuTicks f = fields f.cpu f.id f.number
 used shape.Queue f = fields 0 f.id 0
 used shape.QueueNumber f = fields 0 f.id f.number
@@ -147,12 +149,6 @@ used shape.Time f = fields 0 0 f.number
 
 -- a queue's number has one byte
 abbrev pub greatest_id : Shape → ℕ
-greatest_id shape.Alone = 65535
-greatest_id shape.Work = 65535
-greatest_id shape.WorkCpu = 65535
-greatest_id shape.WorkCpuTicks = 65535
 greatest_id shape.Queue = 255
 greatest_id shape.QueueNumber = 255
-greatest_id shape.Pool = 65535
-greatest_id shape.Flush = 65535
-greatest_id shape.Time = 65535
+greatest_id other = 65535

@@ -7,6 +7,7 @@ pub mod First
 pub mod Listing
 pub mod Mnemonics
 pub mod Name
+pub mod Operations
 pub mod Places
 pub mod Scenario
 pub mod Setting

@@ -5,6 +5,7 @@ use Rattle.std.specs.List.{flat_map, join_with_byte}
 use Rattle.cmwq_types.specs.Contents.{ScenarioContents, WorkContents, ActorContents}
 use Rattle.cmwq_types.specs.Fields.{fields_of, shape_of, word_of}
 use Rattle.cmwq_types.specs.Mnemonics.{spelling}
+use Rattle.cmwq_types.specs.Operations.{op_fields_of, op_shape_of, op_spelling, op_word_of}
 use Rattle.cmwq_types.specs.Scenario.{queue_at, work_at}
 use Rattle.cmwq_types.specs.declared.fields.Fields.{Fields}
 use Rattle.cmwq_types.specs.declared.fields.Shape.{Shape}
@@ -13,7 +14,6 @@ use Rattle.cmwq_types.specs.declared.instr.Instr.{Instr}
 use Rattle.cmwq_types.specs.declared.scenario.Flags.{Flags}
 use Rattle.cmwq_types.specs.declared.scenario.Line.{Line}
 use Rattle.cmwq_types.specs.declared.scenario.Op.{Op}
-use Rattle.cmwq_types.specs.declared.scenario.Op.TheVariants as op
 use Rattle.cmwq_types.specs.declared.scenario.QueueDecl.{QueueDecl}
 
 -- One line of a scenario's text.
@@ -46,29 +46,25 @@ queue_line queue =
 abbrev pub work_line : ScenarioContents → WorkContents → WrittenLine
 work_line S work = Words (codes "work" ∷ work.name ∷ (queue_at S work.queue.0).name ∷ [])
 
-abbrev pub op_line : ScenarioContents → Op → WrittenLine
-op_line S (op.Burn ticks) = numbered (codes "burn") ticks
-op_line S (op.Sleep ticks) = numbered (codes "sleep") ticks
-op_line S (op.Queue work cpu) = Words (codes "queue" ∷ (work_at S work.0).name ∷ decimal cpu ∷ [])
-op_line S op.Finish = Words (codes "finish" ∷ [])
-op_line S (op.Delay work ticks) = Words (codes "delay" ∷ (work_at S work.0).name ∷ decimal ticks ∷ [])
-op_line S (op.Mod work ticks) = Words (codes "mod" ∷ (work_at S work.0).name ∷ decimal ticks ∷ [])
-op_line S (op.Cancel work) = Words (codes "cancel" ∷ (work_at S work.0).name ∷ [])
-
-abbrev pub body_lines : ScenarioContents → WorkContents → List WrittenLine
-body_lines S work = Words (codes "body" ∷ work.name ∷ []) ∷ map (op_line S) work.body
-
--- what stands behind the word of an instruction
+-- the operands of an instruction or operation, as words
 abbrev pub operand_words : ScenarioContents → Shape → Fields → List (List ℕ)
 operand_words S shape.Alone f = []
+operand_words S shape.Ticks f = decimal f.number ∷ []
 operand_words S shape.Work f = (work_at S f.id).name ∷ []
 operand_words S shape.WorkCpu f = (work_at S f.id).name ∷ decimal f.cpu ∷ []
+operand_words S shape.WorkTicks f = (work_at S f.id).name ∷ decimal f.number ∷ []
 operand_words S shape.WorkCpuTicks f = (work_at S f.id).name ∷ decimal f.cpu ∷ decimal f.number ∷ []
 operand_words S shape.Queue f = (queue_at S f.id).name ∷ []
 operand_words S shape.QueueNumber f = (queue_at S f.id).name ∷ decimal f.number ∷ []
 operand_words S shape.Pool f = decimal f.cpu ∷ []
 operand_words S shape.Flush f = decimal f.id ∷ []
 operand_words S shape.Time f = decimal f.number ∷ []
+
+abbrev pub op_line : ScenarioContents → Op → WrittenLine
+op_line S op = Words (op_spelling (op_word_of op) ∷ operand_words S (op_shape_of (op_word_of op)) (op_fields_of op))
+
+abbrev pub body_lines : ScenarioContents → WorkContents → List WrittenLine
+body_lines S work = Words (codes "body" ∷ work.name ∷ []) ∷ map (op_line S) work.body
 
 abbrev pub instr_words : ScenarioContents → Instr → List (List ℕ)
 instr_words S instr = spelling (word_of instr) ∷ operand_words S (shape_of (word_of instr)) (fields_of instr)

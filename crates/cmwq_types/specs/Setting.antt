@@ -1,31 +1,30 @@
 -- What a valid scenario gives whoever reads its parts by their numbers.
 use Rattle.std.specs.Prelude.{◌≡◌, ℕ, ◌<◌, ◌≤◌, true, length}
 use Rattle.cmwq_types.specs.Contents.{ScenarioContents}
+use Rattle.cmwq_types.specs.Operations.{op_fields_of, op_shape_of, op_word_of}
 use Rattle.cmwq_types.specs.Scenario.{op_at, queue_at, queue_of}
+use Rattle.cmwq_types.specs.declared.fields.Fields.{Fields}
+use Rattle.cmwq_types.specs.declared.fields.Shape.{Shape}
+use Rattle.cmwq_types.specs.declared.fields.Shape.TheVariants as shape
 use Rattle.cmwq_types.specs.declared.limits.TheConstants.{MAX_CPUS, MAX_FLUSHES, MAX_OPS, MAX_QUEUES, MAX_STEPS, MAX_WORKERS, MAX_WORKS}
 use Rattle.cmwq_types.specs.declared.scenario.Op.{Op}
 use Rattle.cmwq_types.specs.declared.scenario.Op.TheVariants as op
 use Rattle.cmwq_types.specs.declared.scenario.QueueDecl.{QueueDecl}
 
--- an operation that names a work names one that there is, and a CPU that there is
-abbrev pub IsOpInRange : ScenarioContents → Op → Type 0
-IsOpInRange S (op.Burn ticks) = Unit {0}
-IsOpInRange S (op.Sleep ticks) = Unit {0}
-IsOpInRange S (op.Queue work cpu) = (work.0 < length S.works) × (cpu < S.cpus)
-IsOpInRange S op.Finish = Unit {0}
-IsOpInRange S (op.Delay work ticks) = work.0 < length S.works
-IsOpInRange S (op.Mod work ticks) = work.0 < length S.works
-IsOpInRange S (op.Cancel work) = work.0 < length S.works
+-- the work item and the CPU of these operands are declared
+abbrev pub AreInRange : ScenarioContents → Shape → Fields → Type 0
+AreInRange S shape.Work f = f.id < length S.works
+AreInRange S shape.WorkCpu f = (f.id < length S.works) × (f.cpu < S.cpus)
+AreInRange S shape.WorkTicks f = f.id < length S.works
+AreInRange S other f = Unit {0}
 
--- an operation that doesn't end the body has one behind it
+abbrev pub IsOpInRange : ScenarioContents → Op → Type 0
+IsOpInRange S op = AreInRange S (op_shape_of (op_word_of op)) (op_fields_of op)
+
+-- an operation that doesn't end the body is followed by one
 abbrev pub IsPcInRange : Op → ℕ → Type 0
-IsPcInRange (op.Burn ticks) pc = pc < MAX_OPS
-IsPcInRange (op.Sleep ticks) pc = pc < MAX_OPS
-IsPcInRange (op.Queue work cpu) pc = pc < MAX_OPS
 IsPcInRange op.Finish pc = Unit {0}
-IsPcInRange (op.Delay work ticks) pc = pc < MAX_OPS
-IsPcInRange (op.Mod work ticks) pc = pc < MAX_OPS
-IsPcInRange (op.Cancel work) pc = pc < MAX_OPS
+IsPcInRange other pc = pc < MAX_OPS
 
 abbrev pub IsOneIfOrdered : QueueDecl → Type 0
 IsOneIfOrdered queue = queue.flags.ordered ≡ true → queue.max ≤ 1

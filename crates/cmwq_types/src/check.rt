@@ -1,10 +1,10 @@
 //! The first fault of a scenario.
-ghost use Rattle.cmwq_types.specs.Faults.{Judges, actor_fault, body_fault, counts_fault, first_along, first_fault, fits_flags, is_body, is_declared, is_finish, is_some_finish, line_fault, names_declared, numbers_fault, op_fault, queue_fault, work_fault};
+ghost use Rattle.cmwq_types.specs.Faults.{Judges, actor_fault, body_fault, counts_fault, fields_fault, first_along, first_fault, fits_flags, is_body, is_declared, is_finish, is_some_finish, line_fault, names_declared, numbers_fault, op_fault, queue_fault, work_fault};
 ghost use Rattle.std.specs.List.{list_any};
 ghost use Rattle.std.specs.Prelude.{◌≡◌, ◌-◌, [], IfErr, OnOk, length, slice_get};
 ghost use Rattle.std.specs.Str.{bytes_eq};
 
-use crate::fields::{Shape, fields_of, shape_of, word_of};
+use crate::fields::{Fields, Shape, fields_of, shape_of, word_of};
 use crate::instr::Instr;
 use crate::limits::{
     MAX_ACTORS, MAX_CPUS, MAX_FLUSHES, MAX_LINES, MAX_MAX_ACTIVE, MAX_OPS, MAX_QUEUES, MAX_STEPS,
@@ -130,14 +130,21 @@ impl Scenario {
     fn check_op(&self, op: Op) -> Result<(), Fault>
         ensures { Judges result (op_fault self.now op) }
     {
-        match op {
-            Op::Burn(ticks) | Op::Sleep(ticks) if ticks < 1 || ticks > MAX_TICKS => {
-                Err(Fault::Range)
+        self.check_fields(op.word().shape(), op.fields())
+    }
+
+    /// Returns the fault of an operation's operands, or none.
+    fn check_fields(&self, shape: Shape, fields: Fields) -> Result<(), Fault>
+        ensures { Judges result (fields_fault self.now shape fields) }
+    {
+        let Fields { cpu, id, number } = fields;
+        match shape {
+            Shape::Ticks if number < 1 || number > MAX_TICKS => Err(Fault::Range),
+            Shape::Work | Shape::WorkCpu | Shape::WorkTicks if id as usize >= self.works.len() => {
+                Err(Fault::Unknown)
             }
-            Op::Queue(work, _) | Op::Delay(work, _) | Op::Mod(work, _) | Op::Cancel(work)
-                if work.0 as usize >= self.works.len() => { Err(Fault::Unknown) }
-            Op::Queue(_, cpu) if cpu >= self.cpus => Err(Fault::Range),
-            Op::Delay(_, ticks) | Op::Mod(_, ticks) if ticks > MAX_TICKS => Err(Fault::Range),
+            Shape::WorkCpu if cpu >= self.cpus => Err(Fault::Range),
+            Shape::WorkTicks if number > MAX_TICKS => Err(Fault::Range),
             _ => Ok(()),
         }
     }
@@ -196,9 +203,11 @@ impl Scenario {
         ensures { result ≡ is_declared self.now shape id }
     {
         match shape {
-            Shape::Work | Shape::WorkCpu | Shape::WorkCpuTicks => (id as usize) < self.works.len(),
+            Shape::Work | Shape::WorkCpu | Shape::WorkTicks | Shape::WorkCpuTicks => {
+                (id as usize) < self.works.len()
+            }
             Shape::Queue | Shape::QueueNumber => (id as usize) < self.queues.len(),
-            Shape::Alone | Shape::Pool | Shape::Flush | Shape::Time => true,
+            Shape::Alone | Shape::Ticks | Shape::Pool | Shape::Flush | Shape::Time => true,
         }
     }
 }

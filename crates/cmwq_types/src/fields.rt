@@ -1,4 +1,4 @@
-//! An instruction as its word and three fields: what only cares for the form of an instruction goes by the shape of its word.
+//! An instruction as its word and three fields. Code that needs only the form of an instruction or operation goes by the shape of its word.
 ghost use Rattle.cmwq_types.specs.Fields.{fields, fields_of, greatest_id, instr_of, shape_of, word_of};
 ghost use Rattle.cmwq_types.specs.Values.{IsInstr};
 ghost use Rattle.std.specs.Prelude.{◌≡◌, ◌≤◌};
@@ -6,15 +6,19 @@ ghost use Rattle.std.specs.Prelude.{◌≡◌, ◌≤◌};
 use crate::instr::{Instr, QueueId, WorkId};
 use crate::mnemonic::Mnemonic;
 
-/// What stands behind an instruction's word.
-#[derive(Clone, Copy, Debug, PartialEq, Eq)]
+/// The operands that follow the word of an instruction or operation.
+#[derive(Clone, Copy, PartialEq, Eq)]
 pub enum Shape {
     /// Nothing.
     Alone,
+    /// How many ticks.
+    Ticks,
     /// A work.
     Work,
     /// A work and a CPU.
     WorkCpu,
+    /// A work and how many ticks.
+    WorkTicks,
     /// A work, a CPU and how many ticks.
     WorkCpuTicks,
     /// A queue.

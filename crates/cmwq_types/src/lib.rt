@@ -1,6 +1,6 @@
 //! The data types: scenarios, instructions, and the replies of a machine.
 //!
-//! Proved: `Scenario::check` returns the first fault of a scenario, or none. `copy` returns an equal scenario. An instruction is its word and its operands.
+//! Proved: `Scenario::check` returns the first fault of a scenario, or none. `copy` returns an equal scenario. An instruction is its word and its operands, and so is an operation.
 //! Not proved: the texts of faults.
 #![tactic(auto)]
 
@@ -16,6 +16,7 @@ mod memory;
 mod mnemonic;
 mod moves;
 mod name;
+mod operation;
 mod reply;
 mod scenario;
 
@@ -31,5 +32,6 @@ pub use memory::{NoMemory, filled};
 pub use mnemonic::Mnemonic;
 pub use moves::Move;
 pub use name::Name;
+pub use operation::OpWord;
 pub use reply::{Cause, Event, Mode, Place, Refusal, Reply, WorkRun, WorkState};
 pub use scenario::{Actor, Flags, Line, Op, QueueDecl, Scenario, WorkDecl};
