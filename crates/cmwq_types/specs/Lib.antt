@@ -1,5 +1,6 @@
 pub mod Contents
 pub mod Equality
+pub mod EventParts
 pub mod ExactEquality
 pub mod Faults
 pub mod Fields

@@ -8,6 +8,7 @@ mod by_number;
 mod check;
 mod copying;
 mod equality;
+mod event_parts;
 mod fields;
 mod instr;
 pub mod laws;
@@ -21,6 +22,7 @@ mod reply;
 mod scenario;
 
 pub use check::Fault;
+pub use event_parts::{Object, Outcome, Verb};
 pub use fields::{Fields, Shape, fields_of, instr_of, shape_of, word_of};
 pub use instr::{Instr, QueueId, WorkId};
 pub use limits::{
