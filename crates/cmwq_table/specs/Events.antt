@@ -2,7 +2,11 @@
 use Rattle.std.specs.Prelude.{ℕ, Bool, true, false, List, [], ◌∷◌, ◌++◌, Option, Some, None, codes, if◌then◌else◌}
 use Rattle.std.specs.Fmt.{decimal}
 use Rattle.cmwq_types.specs.Contents.{ScenarioContents}
+use Rattle.cmwq_types.specs.EventParts.{object_of, ticks_of, verb_of, verb_text}
 use Rattle.cmwq_types.specs.Scenario.{work_at}
+use Rattle.cmwq_types.specs.declared.event_parts.Object.{Object}
+use Rattle.cmwq_types.specs.declared.event_parts.Outcome.{Outcome}
+use Rattle.cmwq_types.specs.declared.event_parts.Outcome.TheVariants.{Queued, Modified, Cancelled, Disabled}
 use Rattle.cmwq_types.specs.declared.instr.WorkId.{WorkId}
 use Rattle.cmwq_types.specs.declared.instr.Instr.{Instr}
 use Rattle.cmwq_types.specs.declared.instr.Instr.TheVariants as instr
@@ -12,7 +16,6 @@ use Rattle.cmwq_types.specs.declared.reply.Place.{Place}
 use Rattle.cmwq_types.specs.declared.reply.Place.TheVariants.{Timer, Inactive, Listed, Deferred}
 use Rattle.cmwq_types.specs.declared.reply.WorkRun.{WorkRun}
 use Rattle.cmwq_types.specs.declared.reply.Event.{Event}
-use Rattle.cmwq_types.specs.declared.reply.Event.TheVariants as event
 use Rattle.cmwq_types.specs.declared.reply.Refusal.{Refusal}
 use Rattle.cmwq_types.specs.declared.reply.Refusal.TheVariants as refusal
 use Rattle.cmwq_types.specs.declared.reply.Reply.{Reply}
@@ -42,47 +45,30 @@ abbrev pub found_text : Bool → List ℕ
 found_text true = []
 found_text false = codes " not pending"
 
--- what an event's line says that its work does
-abbrev pub event_verb : Event → List ℕ
-event_verb event.Starts = codes "starts"
-event_verb (event.Burns ticks) = codes "burns"
-event_verb (event.Sleeps ticks) = codes "sleeps"
-event_verb event.Wakes = codes "wakes"
-event_verb event.Finishes = codes "finishes"
-event_verb event.FinishesAndStarts = codes "finishes and starts"
-event_verb event.Defers = codes "defers"
-event_verb event.Fires = codes "fires"
-event_verb (event.Queues other already) = codes "queues"
-event_verb (event.QueuesDisabled other) = codes "queues"
-event_verb event.StartsOnRescuer = codes "starts on rescuer"
-event_verb (event.Delays other ticks already) = codes "delays"
-event_verb (event.DelaysDisabled other ticks) = codes "delays"
-event_verb (event.Mods other ticks changed) = codes "mods"
-event_verb (event.ModsDisabled other ticks) = codes "mods"
-event_verb (event.Cancels other was) = codes "cancels"
+-- the outcome of an operation on a work item
+abbrev pub outcome_text : Outcome → List ℕ
+outcome_text (Queued already) = already_text already
+outcome_text (Modified changed) = changed_text changed
+outcome_text (Cancelled was) = found_text was
+outcome_text Disabled = codes " disabled"
 
--- which work, after how many ticks, and what came of it
+-- what the work item of an event does
+abbrev pub event_verb : Event → List ℕ
+event_verb event = verb_text (verb_of event)
+
+-- a work item, how many ticks, and the outcome
 abbrev pub timed_object : ScenarioContents → WorkId → ℕ → List ℕ → List ℕ
 timed_object S other ticks outcome = codes " " ++ work_name S other ++ codes " " ++ decimal ticks ++ outcome
 
--- and how long, or which work
+-- what follows the verb: how many ticks, or another work item with the outcome, or both
+abbrev pub operand_text : ScenarioContents → Option ℕ → Option Object → List ℕ
+operand_text S None None = []
+operand_text S (Some ticks) None = codes " " ++ decimal ticks
+operand_text S None (Some o) = codes " " ++ work_name S o.work ++ outcome_text o.outcome
+operand_text S (Some ticks) (Some o) = timed_object S o.work ticks (outcome_text o.outcome)
+
 abbrev pub event_object : ScenarioContents → Event → List ℕ
-event_object S (event.Burns ticks) = codes " " ++ decimal ticks
-event_object S (event.Sleeps ticks) = codes " " ++ decimal ticks
-event_object S (event.Queues other already) = codes " " ++ work_name S other ++ already_text already
-event_object S (event.QueuesDisabled other) = codes " " ++ work_name S other ++ codes " disabled"
-event_object S event.Starts = []
-event_object S event.Wakes = []
-event_object S event.Finishes = []
-event_object S event.FinishesAndStarts = []
-event_object S event.Defers = []
-event_object S event.Fires = []
-event_object S event.StartsOnRescuer = []
-event_object S (event.Delays other ticks already) = timed_object S other ticks (already_text already)
-event_object S (event.DelaysDisabled other ticks) = timed_object S other ticks (codes " disabled")
-event_object S (event.Mods other ticks changed) = timed_object S other ticks (changed_text changed)
-event_object S (event.ModsDisabled other ticks) = timed_object S other ticks (codes " disabled")
-event_object S (event.Cancels other was) = codes " " ++ work_name S other ++ found_text was
+event_object S event = operand_text S (ticks_of event) (object_of event)
 
 abbrev pub event_text : ScenarioContents → Event → List ℕ
 event_text S event = event_verb event ++ event_object S event
@@ -151,17 +137,7 @@ asked_name S asked = []
 abbrev pub is_silent : Reply → Bool
 is_silent reply.Queued = true
 is_silent reply.Done = true
-is_silent reply.Already = false
-is_silent reply.Changed = false
-is_silent reply.Cancelled = false
-is_silent reply.NotPending = false
-is_silent (reply.Sync was flush) = false
-is_silent (reply.Flush flush) = false
-is_silent reply.Yes = false
-is_silent reply.No = false
-is_silent (reply.Found state) = false
-is_silent (reply.Event work event) = false
-is_silent (reply.Refused why) = false
+is_silent other = false
 
 -- what a reply's line says behind the time
 abbrev pub reply_words : ScenarioContents → Instr → Reply → List ℕ

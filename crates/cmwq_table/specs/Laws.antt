@@ -76,37 +76,12 @@ GoesOnAsNext S s i = goes_on i ≡ true → is_met S s i ≡ false → table S s
 
 abbrev pub is_wake : Event → Bool
 is_wake event.Wakes = true
-is_wake event.Starts = false
-is_wake (event.Burns ticks) = false
-is_wake (event.Sleeps ticks) = false
-is_wake event.Finishes = false
-is_wake event.FinishesAndStarts = false
-is_wake event.Defers = false
-is_wake event.Fires = false
-is_wake (event.Queues other already) = false
-is_wake (event.QueuesDisabled other) = false
-is_wake event.StartsOnRescuer = false
-is_wake (event.Delays other ticks already) = false
-is_wake (event.DelaysDisabled other ticks) = false
-is_wake (event.Mods other ticks changed) = false
-is_wake (event.ModsDisabled other ticks) = false
-is_wake (event.Cancels other was) = false
+is_wake other = false
 
 -- the reply tells that a sleeper wakes
 abbrev pub tells_wake : Reply → Bool
 tells_wake (reply.Event work event) = is_wake event
-tells_wake reply.Queued = false
-tells_wake reply.Already = false
-tells_wake reply.Changed = false
-tells_wake reply.Cancelled = false
-tells_wake reply.NotPending = false
-tells_wake (reply.Sync was flush) = false
-tells_wake (reply.Flush flush) = false
-tells_wake reply.Done = false
-tells_wake reply.Yes = false
-tells_wake reply.No = false
-tells_wake (reply.Found found) = false
-tells_wake (reply.Refused refusal) = false
+tells_wake other = false
 
 -- Where the concurrency level of a pool rises and is then above one, a sleeper has woken.
 unfoldable pub RisesByWakes : ScenarioContents → State → Instr → Type 0

@@ -72,28 +72,7 @@ abbrev pub is_question : Instr → Bool
 is_question (instr.Ask flush) = true
 is_question instr.Busy = true
 is_question (instr.State w) = true
-is_question (instr.Queue w cpu) = false
-is_question (instr.Delay w cpu ticks) = false
-is_question (instr.Mod w cpu ticks) = false
-is_question (instr.Cancel w) = false
-is_question (instr.CancelSync w) = false
-is_question (instr.Flush w) = false
-is_question (instr.FlushDelayed w) = false
-is_question (instr.FlushQueue q) = false
-is_question (instr.SetMax q max) = false
-is_question instr.Freeze = false
-is_question instr.Thaw = false
-is_question instr.Fire = false
-is_question (instr.Step pool) = false
-is_question instr.Tick = false
-is_question instr.Next = false
-is_question (instr.Disable w) = false
-is_question (instr.Enable w) = false
-is_question instr.Pressure = false
-is_question instr.Relief = false
-is_question (instr.Until time) = false
-is_question (instr.Wait flush) = false
-is_question instr.Quiet = false
+is_question other = false
 
 -- Conditions.
 
@@ -105,28 +84,7 @@ abbrev pub is_met : ScenarioContents → State → Instr → Bool
 is_met S s (instr.Until time) = not (nat_lt s.time time)
 is_met S s (instr.Wait flush) = is_done S s (target_at s flush)
 is_met S s instr.Quiet = is_quiet S s
-is_met S s (instr.Queue w cpu) = false
-is_met S s (instr.Delay w cpu ticks) = false
-is_met S s (instr.Mod w cpu ticks) = false
-is_met S s (instr.Cancel w) = false
-is_met S s (instr.CancelSync w) = false
-is_met S s (instr.Flush w) = false
-is_met S s (instr.FlushDelayed w) = false
-is_met S s (instr.FlushQueue q) = false
-is_met S s (instr.SetMax q max) = false
-is_met S s instr.Freeze = false
-is_met S s instr.Thaw = false
-is_met S s instr.Fire = false
-is_met S s (instr.Step pool) = false
-is_met S s instr.Tick = false
-is_met S s instr.Next = false
-is_met S s (instr.Ask flush) = false
-is_met S s instr.Busy = false
-is_met S s (instr.State w) = false
-is_met S s (instr.Disable w) = false
-is_met S s (instr.Enable w) = false
-is_met S s instr.Pressure = false
-is_met S s instr.Relief = false
+is_met S s other = false
 
 -- A question, and what has what it goes on for, is never Spent, and changes nothing.
 abbrev pub is_free : ScenarioContents → State → Instr → Bool
@@ -157,7 +115,6 @@ abbrev pub situation : ScenarioContents → State → Instr → Option Refusal
 situation S s (instr.Queue w cpu) = while_enabled s w
 situation S s (instr.Delay w cpu ticks) = while_enabled s w
 situation S s (instr.Mod w cpu ticks) = while_enabled s w
-situation S s (instr.Cancel w) = None
 situation S s (instr.CancelSync w) = no_more_flushes S s
 situation S s (instr.Flush w) = no_more_flushes S s
 situation S s (instr.FlushDelayed w) = no_more_flushes S s
@@ -168,17 +125,11 @@ situation S s instr.Thaw = refuse_unless s.frozen NotFrozen
 situation S s instr.Fire = nothing_to_do (first_due S s)
 situation S s (instr.Step pool) = nothing_to_do (next_move S s pool)
 situation S s instr.Tick = unsettled (first_due S s) (first_moving S s)
-situation S s instr.Next = None
-situation S s (instr.Ask flush) = None
-situation S s instr.Busy = None
-situation S s (instr.State w) = None
 situation S s (instr.Disable w) = refuse_unless (nat_lt (depth_at s w.0) MAX_DEPTH) TooDeep
 situation S s (instr.Enable w) = refuse_unless (is_disabled s w.0) NotDisabled
 situation S s instr.Pressure = refuse_unless (not s.pressed) AlreadyPressed
 situation S s instr.Relief = refuse_unless s.pressed NotPressed
-situation S s (instr.Until time) = None
-situation S s (instr.Wait flush) = None
-situation S s instr.Quiet = None
+situation S s other = None
 
 -- The effect and the reply.
 

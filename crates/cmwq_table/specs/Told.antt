@@ -1,5 +1,9 @@
 -- What a reply says of work items: which one starts or finishes, which one was taken off, and which one was queued.
-use Rattle.std.specs.Prelude.{ℕ, Bool, true, false, Option, Some, None, if◌then◌else◌, ◌&&◌, ◌==◌}
+use Rattle.std.specs.Prelude.{ℕ, Bool, true, false, not, Option, Some, None, if◌then◌else◌, ◌&&◌, ◌==◌}
+use Rattle.cmwq_types.specs.EventParts.{object_of}
+use Rattle.cmwq_types.specs.declared.event_parts.Object.{Object}
+use Rattle.cmwq_types.specs.declared.event_parts.Outcome.{Outcome}
+use Rattle.cmwq_types.specs.declared.event_parts.Outcome.TheVariants.{Queued, Modified, Cancelled}
 use Rattle.cmwq_types.specs.declared.instr.Instr.{Instr}
 use Rattle.cmwq_types.specs.declared.instr.Instr.TheVariants as instr
 use Rattle.cmwq_types.specs.declared.instr.WorkId.{WorkId}
@@ -88,11 +92,26 @@ work_to_take_off (instr.CancelSync w) = Some w.0
 work_to_take_off (instr.Disable w) = Some w.0
 work_to_take_off other = None
 
+-- the operation took its work item off
+abbrev pub has_taken_off : Outcome → Bool
+has_taken_off (Modified changed) = changed
+has_taken_off (Cancelled was) = was
+has_taken_off other = false
+
+-- the operation queued its work item
+abbrev pub has_queued : Outcome → Bool
+has_queued (Queued already) = not already
+has_queued (Modified changed) = true
+has_queued other = false
+
+-- the work item that an operation names, if the outcome passes
+abbrev pub named_work : (Outcome → Bool) → Option Object → Option ℕ
+named_work test (Some o) = work_if (test o.outcome) o.work.0
+named_work test None = None
+
 -- the work item that an operation of a body took off
 abbrev pub taken_off_in : Event → Option ℕ
-taken_off_in (event.Mods other ticks changed) = work_if changed other.0
-taken_off_in (event.Cancels other was) = work_if was other.0
-taken_off_in other = None
+taken_off_in event = named_work has_taken_off (object_of event)
 
 -- the work item whose pending half an instruction ends, by its reply: its own, or that of an operation of a body
 abbrev pub cancelled_by : Instr → Reply → Option ℕ
@@ -108,10 +127,7 @@ work_to_queue other = None
 
 -- the work item that an operation of a body queued
 abbrev pub queued_in : Event → Option ℕ
-queued_in (event.Queues other false) = Some other.0
-queued_in (event.Delays other ticks false) = Some other.0
-queued_in (event.Mods other ticks changed) = Some other.0
-queued_in other = None
+queued_in event = named_work has_queued (object_of event)
 
 -- the work item of which there is one more instance, by an instruction and its reply
 abbrev pub requested_by : Instr → Reply → Option ℕ

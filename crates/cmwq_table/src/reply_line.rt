@@ -1,8 +1,8 @@
 //! The line that a reply prints.
-ghost use Rattle.cmwq_table.specs.Events.{already_text, asked_name, changed_text, event_text, event_verb, found_text, is_silent, place_text, refusal_text, reply_line, reply_words, run_text, was_text, worker_number};
+ghost use Rattle.cmwq_table.specs.Events.{already_text, asked_name, changed_text, event_text, found_text, is_silent, outcome_text, place_text, refusal_text, reply_line, reply_words, run_text, was_text, worker_number};
 ghost use Rattle.std.specs.Prelude.{◌≡◌, Some};
 
-use cmwq_types::{Event, Instr, Mode, Place, RESCUER, Refusal, Reply, Scenario, WorkId, WorkRun};
+use cmwq_types::{Event, Instr, Mode, Outcome, Place, RESCUER, Refusal, Reply, Scenario, WorkId, WorkRun};
 use std::fmt;
 
 /// A reply at a time, to be printed for a reader of the scenario.
@@ -104,68 +104,33 @@ impl fmt::Display for EventWords<'_> {
     ghost output = { λ words. Some (event_text words.scenario.now words.event) };
 
     fn fmt<W: fmt::Write>(&self, f: &mut fmt::Formatter<W>) -> fmt::Result {
-        f.write_str(event_verb(self.event))?;
-        match self.event {
-            Event::Burns(ticks) | Event::Sleeps(ticks) => write!(f, " {ticks}"),
-            Event::Queues { other, already } => {
-                let other = self.scenario.work_name(other.0 as usize);
-                let already = already_text(already);
-                write!(f, " {other}{already}")
+        f.write_str(self.event.verb().as_str())?;
+        match (self.event.ticks(), self.event.object()) {
+            (None, None) => Ok(()),
+            (Some(ticks), None) => write!(f, " {ticks}"),
+            (None, Some(object)) => {
+                let other = self.scenario.work_name(object.work.0 as usize);
+                let outcome = outcome_text(object.outcome);
+                write!(f, " {other}{outcome}")
             }
-            Event::QueuesDisabled { other } => {
-                let other = self.scenario.work_name(other.0 as usize);
-                write!(f, " {other} disabled")
+            (Some(ticks), Some(object)) => {
+                let other = self.scenario.work_name(object.work.0 as usize);
+                let outcome = outcome_text(object.outcome);
+                write!(f, " {other} {ticks}{outcome}")
             }
-            Event::Delays {
-                other,
-                ticks,
-                already,
-            } => {
-                let other = self.scenario.work_name(other.0 as usize);
-                let already = already_text(already);
-                write!(f, " {other} {ticks}{already}")
-            }
-            Event::Mods {
-                other,
-                ticks,
-                changed,
-            } => {
-                let other = self.scenario.work_name(other.0 as usize);
-                let changed = changed_text(changed);
-                write!(f, " {other} {ticks}{changed}")
-            }
-            Event::DelaysDisabled { other, ticks } | Event::ModsDisabled { other, ticks } => {
-                let other = self.scenario.work_name(other.0 as usize);
-                write!(f, " {other} {ticks} disabled")
-            }
-            Event::Cancels { other, was } => {
-                let other = self.scenario.work_name(other.0 as usize);
-                let found = found_text(was);
-                write!(f, " {other}{found}")
-            }
-            _ => Ok(()),
         }
     }
 }
 
-/// What an event's line says that its work does.
-fn event_verb(event: Event) -> &'static str
-    ensures { result.now ≡ event_verb event }
+/// Returns the words of an outcome, after a space, or nothing.
+fn outcome_text(outcome: Outcome) -> &'static str
+    ensures { result.now ≡ outcome_text outcome }
 {
-    match event {
-        Event::Starts => "starts",
-        Event::Burns(_) => "burns",
-        Event::Sleeps(_) => "sleeps",
-        Event::Wakes => "wakes",
-        Event::Finishes => "finishes",
-        Event::FinishesAndStarts => "finishes and starts",
-        Event::Defers => "defers",
-        Event::Fires => "fires",
-        Event::Queues { .. } | Event::QueuesDisabled { .. } => "queues",
-        Event::StartsOnRescuer => "starts on rescuer",
-        Event::Delays { .. } | Event::DelaysDisabled { .. } => "delays",
-        Event::Mods { .. } | Event::ModsDisabled { .. } => "mods",
-        Event::Cancels { .. } => "cancels",
+    match outcome {
+        Outcome::Queued { already } => already_text(already),
+        Outcome::Modified { changed } => changed_text(changed),
+        Outcome::Cancelled { was } => found_text(was),
+        Outcome::Disabled => " disabled",
     }
 }
 

@@ -1,6 +1,6 @@
 -- An event as its parts: a verb, a number of ticks, and the work item that it names with the outcome. Of all definitions on the form of
 -- events these alone name each event.
-use Rattle.std.specs.Prelude.{ℕ, Bool, true, false, not, List, Option, Some, None, codes}
+use Rattle.std.specs.Prelude.{ℕ, List, Option, Some, None, codes}
 use Rattle.cmwq_types.specs.declared.event_parts.Object.{Object}
 use Rattle.cmwq_types.specs.declared.event_parts.Outcome.{Outcome}
 use Rattle.cmwq_types.specs.declared.event_parts.Outcome.TheVariants.{Queued, Modified, Cancelled, Disabled}
@@ -69,15 +69,3 @@ object_of (event.Mods other ticks changed) = Some (named other (Modified changed
 object_of (event.ModsDisabled other ticks) = Some (named other Disabled)
 object_of (event.Cancels other was) = Some (named other (Cancelled was))
 object_of other = None
-
--- the operation took the work item off
-abbrev pub has_taken_off : Outcome → Bool
-has_taken_off (Modified changed) = changed
-has_taken_off (Cancelled was) = was
-has_taken_off other = false
-
--- the operation queued the work item
-abbrev pub has_queued : Outcome → Bool
-has_queued (Queued already) = not already
-has_queued (Modified changed) = true
-has_queued other = false
