@@ -13,7 +13,7 @@ use Rattle.cmwq_grammar.specs.FaultLaw.{IsFault}
 use Rattle.cmwq_grammar.specs.Grammar.{Spells}
 use Rattle.cmwq_grammar.specs.Instructions.{actor_names, work_names}
 use Rattle.cmwq_grammar.specs.Meaning.{FaultAt}
-use Rattle.cmwq_debug_lines.specs.Orders.{work_named}
+use Rattle.cmwq_types.specs.Scenario.{work_named}
 use Rattle.cmwq_draw.specs.Picking.{names_from, undeclared}
 use Rattle.cmwq_exploration.specs.declared.exploration.Exploration.{Exploration}
 use Rattle.cmwq_exploration.specs.declared.exploration.Never.{Never}

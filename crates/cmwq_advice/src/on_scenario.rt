@@ -3,12 +3,11 @@ ghost use Rattle.cmwq_advice.specs.Advice.{IsOnScenario, actors_line, asked_work
 ghost use Rattle.cmwq_grammar.specs.Instructions.{work_names};
 ghost use Rattle.cmwq_types.specs.Faults.{IsValid};
 ghost use Rattle.cmwq_types.specs.declared.limits.TheConstants.{MAX_WORKS};
-ghost use Rattle.std.specs.Prelude.{◌≡◌, ◌≤◌, IfOk, length, map, string_bytes};
+ghost use Rattle.std.specs.Prelude.{◌≡◌, ◌≤◌, IfOk, length, map};
 
 use crate::calling::names_line;
 use crate::line::line_of;
 use crate::past_end::past_end;
-use cmwq_debug_lines::work_named;
 use cmwq_draw::undeclared;
 use cmwq_exploration::Never;
 use cmwq_question::Question;
@@ -102,7 +101,7 @@ fn forbidden_work<'a>(scenario: &Scenario, never: Never<'a>) -> &'a str
     match never {
         Never::After { work, .. } | Never::Runs(work) => work,
         Never::Together(one, other) => {
-            if work_named(scenario, one.as_bytes()).is_none() {
+            if scenario.work_named(one.as_bytes()).is_none() {
                 one
             } else {
                 other

@@ -5,7 +5,8 @@ use Rattle.std.specs.Str.{bytes_eq}
 use Rattle.cmwq_types.specs.Contents.{ScenarioContents}
 use Rattle.cmwq_scan.specs.Words.{Word, words_in}
 use Rattle.cmwq_debug.specs.EventWords.{kind_of}
-use Rattle.cmwq_debug_lines.specs.Orders.{on_work, work_break, work_named}
+use Rattle.cmwq_debug_lines.specs.Orders.{on_work, work_break}
+use Rattle.cmwq_types.specs.Scenario.{work_named}
 use Rattle.cmwq_debug_lines.specs.declared.order.Order.{Order}
 use Rattle.cmwq_debug_lines.specs.declared.order.Order.TheVariants.{Bad}
 

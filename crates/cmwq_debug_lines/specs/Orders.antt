@@ -1,7 +1,8 @@
 -- What a command line tells the debugger, by its words.
-use Rattle.std.specs.Prelude.{ℕ, List, [], ◌∷◌, Option, Some, None, Result, Ok, Err, codes, if◌then◌else◌, position}
+use Rattle.std.specs.Prelude.{ℕ, List, [], ◌∷◌, Option, Some, None, Result, Ok, Err, codes, if◌then◌else◌}
 use Rattle.std.specs.Str.{bytes_eq}
 use Rattle.cmwq_types.specs.Contents.{ScenarioContents}
+use Rattle.cmwq_types.specs.Scenario.{work_named}
 use Rattle.cmwq_grammar.specs.LineFields.{number_within}
 use Rattle.cmwq_grammar.specs.declared.why.Why.{Why}
 use Rattle.cmwq_scan.specs.LastFields.{last}
@@ -31,10 +32,6 @@ only order (word ∷ rest) = Bad
 
 abbrev pub alone : Command → List (List ℕ) → Order
 alone command words = only (Do command) words
-
--- the number of the work of this name
-abbrev pub work_named : ScenarioContents → List ℕ → Option ℕ
-work_named S name = position (λ work. bytes_eq work.name name) S.works
 
 -- the event is judged before the name is looked up
 abbrev pub on_work : Option ℕ → Option EventKind → Order

@@ -1,9 +1,10 @@
 //! Reading an order off the words of a line.
-ghost use Rattle.cmwq_debug_lines.specs.Orders.{activation_break, alone, break_order, dump_order, next_order, on_activation, on_work, only, order_of, verb_order, why_order, why_work, with_count, with_number, work_break, work_named};
+ghost use Rattle.cmwq_debug_lines.specs.Orders.{activation_break, alone, break_order, dump_order, next_order, on_activation, on_work, only, order_of, verb_order, why_order, why_work, with_count, with_number, work_break};
+ghost use Rattle.cmwq_types.specs.Scenario.{work_named};
 ghost use Rattle.cmwq_debug.specs.declared.command.Command.{Command};
 ghost use Rattle.cmwq_types.specs.declared.limits.TheConstants.{MAX_WORKS};
 ghost use Rattle.cmwq_scan.specs.Words.{words_in};
-ghost use Rattle.std.specs.Prelude.{◌≡◌, ◌<◌, ◌≤◌, ℕ, IfSome, length};
+ghost use Rattle.std.specs.Prelude.{◌≡◌, ◌<◌, ◌≤◌, ℕ, length};
 
 use crate::order::Order;
 use crate::verb::Verb;
@@ -126,7 +127,7 @@ fn why_work(scenario: &Scenario, name: &[u8]) -> Order
     requires { length scenario.now.works ≤ MAX_WORKS }
     ensures { result ≡ why_work (work_named scenario.now name.now) }
 {
-    match work_named(scenario, name) {
+    match scenario.work_named(name) {
         Some(w) => Order::Do(Command::Why(WorkId(w as u16))),
         None => Order::NoWork,
     }
@@ -175,7 +176,7 @@ fn on_work(scenario: &Scenario, name: &[u8], event: Option<EventKind>) -> Order
     let Some(event) = event else {
         return Order::Bad;
     };
-    match work_named(scenario, name) {
+    match scenario.work_named(name) {
         Some(w) => Order::Do(Command::BreakWork {
             work: WorkId(w as u16),
             event,
@@ -200,19 +201,8 @@ fn on_activation(scenario: &Scenario, name: &[u8]) -> Order
     requires { length scenario.now.works ≤ MAX_WORKS }
     ensures { result ≡ on_activation (work_named scenario.now name.now) }
 {
-    match work_named(scenario, name) {
+    match scenario.work_named(name) {
         Some(w) => Order::Do(Command::BreakActivation(WorkId(w as u16))),
         None => Order::NoWork,
     }
-}
-
-/// The number of the work of this name, if the scenario has one.
-pub fn work_named(scenario: &Scenario, name: &[u8]) -> Option<usize>
-    ensures named { result ≡ work_named scenario.now name.now }
-    ensures in_range { IfSome result (λ w. w < length scenario.now.works) }
-{
-    scenario
-        .works
-        .iter()
-        .position(|work| is_word(work.name.as_bytes(), name))
 }

@@ -11,7 +11,6 @@ mod talk;
 mod verb;
 mod whole_lines;
 
-pub use commands_read::work_named;
 pub use manner::Manner;
 pub use prompt::{answer_in, ending, opening};
 pub use talk::answer;

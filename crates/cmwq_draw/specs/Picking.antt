@@ -3,7 +3,7 @@ use Rattle.std.specs.Borrow.{Bor}
 use Rattle.std.specs.Prelude.{ℕ, List, [], ◌∷◌, ◌++◌, Option, Some, None, is_some, if◌then◌else◌, ◌==◌}
 use Rattle.cmwq_types.specs.Contents.{ScenarioContents}
 use Rattle.cmwq_types.specs.declared.instr.WorkId.{WorkId}
-use Rattle.cmwq_debug_lines.specs.Orders.{work_named}
+use Rattle.cmwq_types.specs.Scenario.{work_named}
 
 -- the names of a list, where the first of them began with these bytes
 abbrev pub names_from : List ℕ → List ℕ → List (List ℕ)

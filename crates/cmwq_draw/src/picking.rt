@@ -1,12 +1,11 @@
 //! Which works have rows: those that are named, or all.
-ghost use Rattle.cmwq_debug_lines.specs.Orders.{work_named};
+ghost use Rattle.cmwq_types.specs.Scenario.{work_named};
 ghost use Rattle.cmwq_draw.specs.Picking.{names_from, picked, undeclared, works_named};
 ghost use Rattle.cmwq_draw.specs.WorksFound.{found_work, name_items, picked_items};
 ghost use Rattle.cmwq_picture.specs.ExtentContents.{picked_works};
 ghost use Rattle.cmwq_types.specs.declared.limits.TheConstants.{MAX_WORKS};
 ghost use Rattle.std.specs.Prelude.{◌≡◌, ◌≤◌, ◌⊎◌, ◌++◌, None, IfErr, IfOk, OnOk, Some, [], is_some, length};
 
-use cmwq_debug_lines::work_named;
 use cmwq_streams::PlayError;
 use cmwq_types::{NoMemory, Scenario, WorkId};
 use std::alloc::Global;
@@ -74,7 +73,7 @@ fn push_named(works: &mut Vec<WorkId>, scenario: &Scenario, name: &[u8]) -> Resu
     ensures known { IfOk result (λ known. known ≡ is_some (work_named scenario.now name.now)) }
     ensures pushed { OnOk result (works.new.items ≡ works.old.items ++ found_work (work_named scenario.now name.now)) }
 {
-    match work_named(scenario, name) {
+    match scenario.work_named(name) {
         Some(w) => {
             works.push(WorkId(w as u16))?;
             Ok(true)
@@ -95,7 +94,7 @@ pub fn undeclared(
     let mut name = Vec::new(alloc);
     for letter in names.as_bytes() {
         if *letter == b',' {
-            if work_named(scenario, &name).is_none() {
+            if scenario.work_named(&name).is_none() {
                 return Ok(Some(name));
             }
             name = Vec::new(alloc);
@@ -103,7 +102,7 @@ pub fn undeclared(
             name.push(*letter)?;
         }
     }
-    if work_named(scenario, &name).is_none() {
+    if scenario.work_named(&name).is_none() {
         return Ok(Some(name));
     }
     Ok(None)

@@ -12,7 +12,7 @@ use Rattle.cmwq_explain.specs.Changes.{changes_text, is_last, is_settled, looks_
 use Rattle.cmwq_explain.specs.ChangesTold.{IsPastEnd}
 use Rattle.cmwq_question.specs.declared.question.Looks.{Looks}
 use Rattle.cmwq_question.specs.declared.question.Looks.TheVariants.{Settled, Every, At, Time}
-use Rattle.cmwq_debug_lines.specs.Orders.{work_named}
+use Rattle.cmwq_types.specs.Scenario.{work_named}
 use Rattle.cmwq_streams.specs.declared.error.PlayError.{PlayError}
 use Rattle.cmwq_streams.specs.declared.error.PlayError.TheVariants as errors
 use Rattle.cmwq_explain.specs.Explained.{Explains, IsAsked, IsUnknown, has_stopped, line_of_work, said_of, said_to, told_along, with_stop}

@@ -13,7 +13,7 @@ use Rattle.cmwq_types.specs.declared.instr.Instr.TheVariants.{Next}
 use Rattle.cmwq_table.specs.State.{State, start}
 use Rattle.cmwq_table.specs.Table.{after_all, run, table}
 use Rattle.cmwq_table.proofs.RunLemmas.{after_all-append}
-use Rattle.cmwq_debug_lines.specs.Orders.{work_named}
+use Rattle.cmwq_types.specs.Scenario.{work_named}
 use Rattle.cmwq_play.proofs.TextLemmas.{same_actor}
 use Rattle.cmwq_settle.specs.Counting.{with_one_actor}
 use Rattle.cmwq_table.specs.Counts.{is_quiet, pends_or_runs}

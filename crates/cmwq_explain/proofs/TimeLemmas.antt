@@ -1,28 +1,17 @@
 -- Time passes at settled positions alone, a tick at a time: so at each tick that a run comes to there is one that is looked at.
-use Rattle.std.proofs.Common.{◌≡◌, ◌≤◌, ◌<◌, ◌⊎◌, inl, inr, ℕ, zero, suc, ◌+◌, Bool, true, false, cond, List, [], ◌∷◌, length, take, Option, Some, None, arith, refl, ap, ◌∙◌}
+use Rattle.std.proofs.Common.{◌≡◌, ◌≤◌, ◌<◌, ◌⊎◌, inl, inr, ℕ, zero, suc, ◌+◌, true, List, [], ◌∷◌, length, take, Option, Some, None, arith, refl, ap, ◌∙◌}
 use Rattle.std.proofs.Math.Nat.{eq-or-lt_of_le}
 use Rattle.std.proofs.lemmas.Bool.{cases_lt}
 use Rattle.std.proofs.lemmas.List.{take_all, take_more}
 use Rattle.std.specs.Prelude.{◌&&◌, is_none, slice_index_or}
 use Rattle.cmwq_types.specs.Contents.{ScenarioContents}
-use Rattle.cmwq_types.specs.Scenario.{op_at, queue_of, local_cpu}
 use Rattle.cmwq_types.specs.declared.instr.Instr.{Instr}
 use Rattle.cmwq_types.specs.declared.instr.Instr.TheVariants as instr
-use Rattle.cmwq_types.specs.declared.instr.WorkId.{WorkId}
-use Rattle.cmwq_types.specs.declared.moves.Move.{Move}
-use Rattle.cmwq_types.specs.declared.moves.Move.TheVariants.{Advance, Wake, Start, Defer, Rescue}
-use Rattle.cmwq_types.specs.declared.reply.Event.{Event}
-use Rattle.cmwq_types.specs.declared.reply.Event.TheVariants as event
-use Rattle.cmwq_types.specs.declared.reply.Refusal.{Refusal}
-use Rattle.cmwq_types.specs.declared.scenario.Op.{Op}
-use Rattle.cmwq_types.specs.declared.scenario.Op.TheVariants as op
 use Rattle.cmwq_types.specs.declared.reply.Reply.{Reply}
-use Rattle.cmwq_table.specs.Counts.{first_due, free_worker, is_deferred, is_rescuer, or_else}
-use Rattle.cmwq_table.specs.Moves.{advance, become_idle, begin_again, carry_out, come_to_end, deferred, finish, first_moving, moved, next_move, onward, queue_from_body, rescued, retire, started, tick, with_depth, with_running, woken, delay_from_body, mod_from_body}
-use Rattle.cmwq_table.specs.State.{State, depth_at, is_disabled, pending_at, running_at, start}
-use Rattle.cmwq_table.specs.Table.{answer, cancelled, delayed, effect, fired_first, modified, next, operands, queued, run, situation, spent_all, step_or_tick, stepped, table, unsettled, is_met, next_unless}
-use Rattle.cmwq_table.specs.declared.state.Pending.{Pending}
-use Rattle.cmwq_table.specs.declared.state.Running.{Running}
+use Rattle.cmwq_table.specs.Counts.{first_due}
+use Rattle.cmwq_table.specs.Moves.{first_moving, tick}
+use Rattle.cmwq_table.specs.State.{State, start}
+use Rattle.cmwq_table.specs.Table.{run, table}
 use Rattle.cmwq_table.proofs.RunLemmas.{after_all-append}
 use Rattle.cmwq_table.proofs.Frames.{Frame, IsRefused, table-frame}
 use Rattle.cmwq_explain.specs.Changes.{is_settled}

@@ -9,7 +9,7 @@ use Rattle.cmwq_table.specs.declared.state.FlushTarget.{FlushTarget}
 use Rattle.cmwq_reasons.specs.Reasons.{waits}
 use Rattle.cmwq_why_text.specs.WhyText.{why_line}
 use Rattle.cmwq_flush_waits.specs.FlushText.{flush_lines}
-use Rattle.cmwq_debug_lines.specs.Orders.{work_named}
+use Rattle.cmwq_types.specs.Scenario.{work_named}
 use Rattle.cmwq_explain.specs.Changes.{changes_text}
 use Rattle.cmwq_explain.specs.ChangesTold.{IsPastEnd}
 use Rattle.cmwq_question.specs.declared.question.Inquiry.{Inquiry}

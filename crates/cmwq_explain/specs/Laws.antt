@@ -4,7 +4,7 @@ use Rattle.cmwq_types.specs.Contents.{ActorContents, ScenarioContents}
 use Rattle.cmwq_types.specs.Scenario.{expand}
 use Rattle.cmwq_types.specs.declared.instr.Instr.{Instr}
 use Rattle.cmwq_table.specs.Table.{run}
-use Rattle.cmwq_debug_lines.specs.Orders.{work_named}
+use Rattle.cmwq_types.specs.Scenario.{work_named}
 use Rattle.cmwq_play.specs.Runs.{IsRunOf}
 use Rattle.cmwq_settle.specs.Settled.{IsSettled}
 use Rattle.cmwq_question.specs.declared.question.Inquiry.{Inquiry}

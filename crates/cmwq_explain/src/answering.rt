@@ -4,7 +4,6 @@ ghost use Rattle.cmwq_explain.specs.Changes.{words_said};
 ghost use Rattle.std.specs.Prelude.{◌≡◌, ◌↔◌, IfOk, IsTrue, option_map, string_bytes};
 
 use crate::sayer::Sayer;
-use cmwq_debug_lines::work_named;
 use cmwq_flush_waits::flush_text;
 use cmwq_question::Question;
 use cmwq_reads::is_spent;
@@ -19,7 +18,7 @@ pub(crate) fn is_unknown(question: Question<'_>, scenario: &Scenario) -> bool
     ensures { IsTrue result ↔ IsUnknown question.entry scenario.now }
 {
     match question {
-        Question::Work(name) => work_named(scenario, name.as_bytes()).is_none(),
+        Question::Work(name) => scenario.work_named(name.as_bytes()).is_none(),
         Question::Flush(_) => false,
     }
 }
@@ -56,7 +55,7 @@ fn said_of<R: Reads>(
     ensures { IfOk result (λ said. words_said said ≡ said_of question.entry (R.loaded machine.now) (R.state machine.now)) }
 {
     match question {
-        Question::Work(name) => match work_named(machine.scenario(), name.as_bytes()) {
+        Question::Work(name) => match machine.scenario().work_named(name.as_bytes()) {
             Some(w) => Ok(Some(work_text(alloc, machine, WorkId(w as u16))?)),
             None => Ok(None),
         },
@@ -88,7 +87,7 @@ fn is_unfinished<R: Reads>(
     ensures { IfOk result (λ is. is ≡ is_unfinished question.entry (R.loaded machine.now) (R.state machine.now)) }
 {
     match question {
-        Question::Work(name) => match work_named(machine.scenario(), name.as_bytes()) {
+        Question::Work(name) => match machine.scenario().work_named(name.as_bytes()) {
             Some(w) => Ok(machine.pending_of(w).is_some() || machine.running_of(w).is_some()),
             None => Ok(false),
         },

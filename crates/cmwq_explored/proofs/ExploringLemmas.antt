@@ -1,10 +1,9 @@
 -- Why a scenario isn't explored, and that a writer has no part in that.
-use Rattle.std.proofs.Common.{◌≡◌, ◌⊎◌, ◌↔◌, inl, inr, ℕ, Bool, true, false, List, [], ◌∷◌, Option, Some, None, Result, Ok, Err, IfErr, IfSome, length, cond, leb, ltb, eqb, refl, sym, ap, ◌∙◌, subst}
+use Rattle.std.proofs.Common.{◌≡◌, ◌⊎◌, ◌↔◌, inl, inr, ℕ, Bool, true, false, List, [], ◌∷◌, Option, Some, None, Result, Ok, Err, IfErr, IfSome, length, cond, ltb, eqb, sym, ◌∙◌, subst}
 use Rattle.std.specs.Io.KnownBytes.{Keeps}
-use Rattle.std.specs.Prelude.{nat_lt, ◌==◌}
 use Rattle.cmwq_types.specs.Contents.{ScenarioContents}
 use Rattle.cmwq_types.specs.declared.limits.TheConstants.{MAX_LINES}
-use Rattle.cmwq_debug_lines.specs.Orders.{work_named}
+use Rattle.cmwq_types.specs.Scenario.{work_named}
 use Rattle.cmwq_play.specs.PlayTexts.{IsSpelled}
 use Rattle.cmwq_streams.specs.declared.error.PlayError.{PlayError}
 use Rattle.cmwq_streams.specs.declared.error.PlayError.TheVariants as play
@@ -15,7 +14,8 @@ use Rattle.cmwq_exploration.specs.declared.exploration.Never.{Never}
 use Rattle.cmwq_exploration.specs.declared.exploration.Never.TheVariants as never
 use Rattle.cmwq_exploration.specs.declared.exploration.Precedence.{Precedence}
 use Rattle.cmwq_explore.specs.Plans.{flush_count, line_count}
-use Rattle.cmwq_explored.specs.Asking.{actor_named, fault_of, fault_of_names, precedence_asked, precedences_asked, put_before, question_asked, with_number}
+use Rattle.cmwq_explored.specs.Asking.{fault_of, fault_of_names, precedence_asked, precedences_asked, put_before, question_asked, with_number}
+use Rattle.cmwq_types.specs.Scenario.{actor_named}
 use Rattle.cmwq_explored.specs.Errors.{no_memory}
 use Rattle.cmwq_explored.specs.Exploring.{Explores, IsOutside}
 use Rattle.cmwq_explored.specs.declared.error.ExploreError.{ExploreError}

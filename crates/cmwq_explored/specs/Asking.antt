@@ -1,9 +1,8 @@
 -- What is asked by names, by the numbers of actors and works; and why a scenario can't be explored so.
-use Rattle.std.specs.Prelude.{◌≡◌, ℕ, false, List, [], ◌∷◌, length, Option, Some, None, Result, Ok, Err, if◌then◌else◌, nat_lt, ◌==◌, position}
-use Rattle.std.specs.Str.{bytes_eq}
+use Rattle.std.specs.Prelude.{◌≡◌, ℕ, false, List, [], ◌∷◌, length, Option, Some, None, Result, Ok, Err, if◌then◌else◌, nat_lt, ◌==◌}
 use Rattle.cmwq_types.specs.Contents.{ScenarioContents}
 use Rattle.cmwq_types.specs.declared.limits.TheConstants.{MAX_LINES}
-use Rattle.cmwq_debug_lines.specs.Orders.{work_named}
+use Rattle.cmwq_types.specs.Scenario.{actor_named, work_named}
 use Rattle.cmwq_streams.specs.declared.error.PlayError.TheVariants as play
 use Rattle.cmwq_orders.specs.declared.choice.Before.{Before}
 use Rattle.cmwq_orders.specs.declared.question.Question.{Question}
@@ -15,10 +14,6 @@ use Rattle.cmwq_exploration.specs.declared.exploration.Never.TheVariants as neve
 use Rattle.cmwq_exploration.specs.declared.exploration.Precedence.{Precedence}
 use Rattle.cmwq_explored.specs.declared.error.ExploreError.{ExploreError}
 use Rattle.cmwq_explored.specs.declared.error.ExploreError.TheVariants.{Play, NoSuchActor, Flushes}
-
--- the number of the actor of this name
-abbrev pub actor_named : ScenarioContents → List ℕ → Option ℕ
-actor_named S name = position (λ actor. bytes_eq actor.name name) S.actors
 
 -- what is made of a number that was found, or else why there is none
 abbrev pub with_number : {A : Type 0} → ExploreError → Option ℕ → (ℕ → Result A ExploreError) → Result A ExploreError

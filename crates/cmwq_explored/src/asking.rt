@@ -1,14 +1,13 @@
 //! What is asked by names, by the numbers of actors and works.
-ghost use Rattle.cmwq_explored.specs.Asking.{actor_named, precedence_asked, precedences_asked, question_asked, with_actor, with_work};
+ghost use Rattle.cmwq_explored.specs.Asking.{precedence_asked, precedences_asked, question_asked, with_actor, with_work};
+ghost use Rattle.cmwq_types.specs.Scenario.{actor_named};
 ghost use Rattle.cmwq_explored.specs.Errors.{no_memory};
 ghost use Rattle.cmwq_types.specs.Faults.{IsValid};
-ghost use Rattle.std.specs.Prelude.{◌≡◌, ◌<◌, ◌⊎◌, Err, IfErr, IfOk, IfSome, Ok, length};
+ghost use Rattle.std.specs.Prelude.{◌≡◌, ◌<◌, ◌⊎◌, Err, IfErr, IfOk, Ok};
 
 use crate::error::ExploreError;
-use cmwq_debug_lines::work_named;
 use cmwq_exploration::{Never, Precedence};
 use cmwq_orders::{Before, Question};
-use cmwq_scan::is_word;
 use cmwq_streams::PlayError;
 use cmwq_types::{Scenario, WorkId};
 use std::alloc::Global;
@@ -73,7 +72,7 @@ fn actor_asked(scenario: &Scenario, name: &str) -> Result<u8, ExploreError>
     requires valid { IsValid scenario.now }
     ensures { result ≡ with_actor scenario.now name.now (λ actor. Ok actor) }
 {
-    match actor_named(scenario, name.as_bytes()) {
+    match scenario.actor_named(name.as_bytes()) {
         Some(actor) => Ok(actor as u8),
         None => Err(ExploreError::NoSuchActor),
     }
@@ -84,19 +83,8 @@ fn work_asked(scenario: &Scenario, name: &str) -> Result<WorkId, ExploreError>
     requires valid { IsValid scenario.now }
     ensures { result ≡ with_work scenario.now name.now (λ work. Ok (record { 0 = work })) }
 {
-    match work_named(scenario, name.as_bytes()) {
+    match scenario.work_named(name.as_bytes()) {
         Some(work) => Ok(WorkId(work as u16)),
         None => Err(ExploreError::Play(PlayError::NoSuchWork)),
     }
-}
-
-/// The number of the actor of this name, from 0; `None` where no actor has it.
-fn actor_named(scenario: &Scenario, name: &[u8]) -> Option<usize>
-    ensures named { result ≡ actor_named scenario.now name.now }
-    ensures there { IfSome result (λ actor. actor < length scenario.now.actors) }
-{
-    scenario
-        .actors
-        .iter()
-        .position(|actor| is_word(actor.name.as_bytes(), name))
 }

@@ -18,7 +18,7 @@ use Rattle.cmwq_types.specs.declared.reply.Reply.TheVariants as reply
 use Rattle.cmwq_types.specs.declared.scenario.Op.{Op}
 use Rattle.cmwq_types.specs.declared.scenario.Op.TheVariants as op
 use Rattle.cmwq_table.specs.Changes.{MoveFits, slept_in}
-use Rattle.cmwq_table.specs.Counts.{first_runnable, first_slept, is_runnable, is_slept, or_else, ready_head, running_before, running_stamp, running_until, runs}
+use Rattle.cmwq_table.specs.Counts.{first_runnable, first_slept, is_runnable, is_slept, or_else, ready_head, running_before, runs}
 use Rattle.cmwq_table.specs.Moves.{as_move, first_moving, moved_work, next_move, start_move, tick}
 use Rattle.cmwq_table.specs.State.{State, running_at}
 use Rattle.cmwq_table.specs.Table.{table}

@@ -1,12 +1,12 @@
 -- What is noted of a good text: where a kernel does otherwise than this program, and which lines do less than they seem to. The lines are this project's
 -- own.
-use Rattle.std.specs.Prelude.{◌≡◌, ◌⊎◌, ◌==◌, ℕ, suc, Bool, false, not, ◌&&◌, ◌||◌, List, [], ◌∷◌, ◌++◌, Option, None, Some, codes, if◌then◌else◌, nat_le, length, position}
+use Rattle.std.specs.Prelude.{◌≡◌, ◌⊎◌, ◌==◌, ℕ, suc, Bool, false, not, ◌&&◌, ◌||◌, List, [], ◌∷◌, ◌++◌, Option, None, Some, codes, if◌then◌else◌, nat_le, length}
 use Rattle.std.specs.Fmt.{decimal}
 use Rattle.std.specs.List.{list_any}
 use Rattle.std.specs.Str.{bytes_eq}
 use Rattle.cmwq_types.specs.Contents.{ScenarioContents}
 use Rattle.cmwq_types.specs.First.{count_below}
-use Rattle.cmwq_types.specs.Scenario.{flags_at, queue_of, work_at}
+use Rattle.cmwq_types.specs.Scenario.{flags_at, queue_named, queue_of, work_at, work_named}
 use Rattle.cmwq_types.specs.declared.scenario.Flags.{Flags}
 use Rattle.cmwq_types.specs.declared.scenario.Op.{Op}
 use Rattle.cmwq_types.specs.declared.scenario.Op.TheVariants as op
@@ -38,9 +38,6 @@ queues_work w other = false
 abbrev pub queues_itself : ScenarioContents → ℕ → Bool
 queues_itself S w = list_any (queues_work w) (work_at S w).body
 
-abbrev pub work_named : ScenarioContents → List ℕ → Option ℕ
-work_named S name = position (λ work. bytes_eq work.name name) S.works
-
 abbrev pub sync_note : ScenarioContents → (file : List ℕ) → ℕ → (name : List ℕ) → Option ℕ → List ℕ
 sync_note S file number name (Some w) = if queues_itself S w then note_line file number name sync_sentence else []
 sync_note S file number name None = []
@@ -70,9 +67,6 @@ works_of S queue = count_below (is_work_of S queue) (length S.works)
 abbrev pub is_intensive_beside : ScenarioContents → ℕ → Bool
 is_intensive_beside S queue =
     (flags_at S queue).cpu_intensive && (is_bound (flags_at S queue) && (nat_le 1 (works_of S queue) && nat_le 2 (bound_works S)))
-
-abbrev pub queue_named : ScenarioContents → List ℕ → Option ℕ
-queue_named S name = position (λ queue. bytes_eq queue.name name) S.queues
 
 abbrev pub intensive_note : ScenarioContents → (file : List ℕ) → ℕ → (name : List ℕ) → Option ℕ → List ℕ
 intensive_note S file number name (Some queue) = if is_intensive_beside S queue then note_line file number name intensive_sentence else []

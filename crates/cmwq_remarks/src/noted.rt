@@ -1,11 +1,12 @@
 //! What is noted of a good text.
 ghost use Rattle.cmwq_grammar.specs.Cutting.{lines_of, words_of};
-ghost use Rattle.cmwq_remarks.specs.Notes.{AreNotes, bound_works, begins_with_max, cpu_note, intensive_note, is_bound, is_bound_work, is_intensive_beside, line_note, line_notes, note_if, note_line, notes_from, place_text, queue_named, queues_itself, queues_work, steps_note, sync_note, trap_note, work_named, works_of};
+ghost use Rattle.cmwq_remarks.specs.Notes.{AreNotes, bound_works, begins_with_max, cpu_note, intensive_note, is_bound, is_intensive_beside, line_note, line_notes, note_if, note_line, notes_from, place_text, queues_itself, queues_work, steps_note, sync_note, trap_note, works_of};
+ghost use Rattle.cmwq_types.specs.Scenario.{queue_named, work_named};
 ghost use Rattle.cmwq_remarks.specs.Traps.{is_cpu, wants_cpu};
 ghost use Rattle.cmwq_scan.specs.Words.{words_in, words_left};
 ghost use Rattle.cmwq_types.specs.declared.limits.TheConstants.{MAX_QUEUES};
 ghost use Rattle.std.specs.List.{list_any};
-ghost use Rattle.std.specs.Prelude.{◌≡◌, ◌<◌, ◌≤◌, ◌++◌, ◌&&◌, IfOk, IfSome, OnOk, codes, length, not, option_map};
+ghost use Rattle.std.specs.Prelude.{◌≡◌, ◌<◌, ◌≤◌, ◌++◌, ◌&&◌, IfOk, OnOk, codes, length, not, option_map};
 ghost use Rattle.std.specs.Str.{bytes_eq};
 
 use crate::traps::{cpu_sentence, has_few_steps, is_cpu, steps_sentence, uncounted, wants_cpu};
@@ -181,7 +182,7 @@ impl Place<'_> {
     fn push_sync_note(&self, told: &mut Vec<u8>, name: &[u8]) -> Result<(), NoMemory>
         ensures { OnOk result (told.new.items ≡ told.old.items ++ sync_note self.now.scenario.now self.now.file.now self.now.number name.now (work_named self.now.scenario.now name.now)) }
     {
-        match work_named(self.scenario, name) {
+        match self.scenario.work_named(name) {
             Some(w) if queues_itself(self.scenario, w) => self.push_line(told, name, SYNC),
             _ => Ok(()),
         }
@@ -192,7 +193,7 @@ impl Place<'_> {
         requires { length self.now.scenario.now.queues ≤ MAX_QUEUES }
         ensures { OnOk result (told.new.items ≡ told.old.items ++ intensive_note self.now.scenario.now self.now.file.now self.now.number name.now (queue_named self.now.scenario.now name.now)) }
     {
-        match queue_named(self.scenario, name) {
+        match self.scenario.queue_named(name) {
             Some(queue) if is_intensive_beside(self.scenario, queue as u8) => {
                 self.push_line(told, name, INTENSIVE)
             }
@@ -238,28 +239,6 @@ fn begins_with_max(rest: &[u8]) -> bool
         Some((word, _)) => is_word(word, b"max"),
         None => false,
     }
-}
-
-/// The number of the work of this name, if there is one.
-fn work_named(scenario: &Scenario, name: &[u8]) -> Option<usize>
-    ensures named { result ≡ work_named scenario.now name.now }
-    ensures in_range { IfSome result (λ w. w < length scenario.now.works) }
-{
-    scenario
-        .works
-        .iter()
-        .position(|work| is_word(work.name.as_bytes(), name))
-}
-
-/// The number of the queue of this name, if there is one.
-fn queue_named(scenario: &Scenario, name: &[u8]) -> Option<usize>
-    ensures named { result ≡ queue_named scenario.now name.now }
-    ensures in_range { IfSome result (λ queue. queue < length scenario.now.queues) }
-{
-    scenario
-        .queues
-        .iter()
-        .position(|queue| is_word(queue.name.as_bytes(), name))
 }
 
 /// Whether the work's body queues the work itself.

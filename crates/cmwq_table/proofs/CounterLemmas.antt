@@ -29,25 +29,25 @@ use Rattle.cmwq_table.specs.Table.{after_all, answer, cancelled, delayed, effect
 use Rattle.cmwq_table.specs.declared.state.Pending.{Pending}
 use Rattle.cmwq_table.specs.declared.state.Running.{Running}
 
-stays : (n : ℕ) (s : State) → Takes n s s
+pub stays : (n : ℕ) (s : State) → Takes n s s
 stays n s = record { next = omega arith; time = refl; spent = refl; depth = refl; flushes = refl }
 
-both : (m n k : ℕ) (s t u : State) → Takes m s t → Takes n t u → m + n ≤ k → Takes k s u
+pub both : (m n k : ℕ) (s t u : State) → Takes m s t → Takes n t u → m + n ≤ k → Takes k s u
 both m n k s t u a b h = record { next = omega (arith, a.next, b.next); time = b.time ∙ a.time; spent = b.spent ∙ a.spent; depth = b.depth ∙ a.depth; flushes = b.flushes ∙ a.flushes }
 
-within : (m n : ℕ) (s t : State) → Takes m s t → m ≤ n → Takes n s t
+pub within : (m n : ℕ) (s t : State) → Takes m s t → m ≤ n → Takes n s t
 within m n s t a h = record { next = omega (arith, a.next); time = a.time; spent = a.spent; depth = a.depth; flushes = a.flushes }
 
 -- Filling.
 
-enlist-takes : (s : State) (pool : ℕ) (o : Option ℕ) → Takes 1 s (enlist s pool o)
+pub enlist-takes : (s : State) (pool : ℕ) (o : Option ℕ) → Takes 1 s (enlist s pool o)
 enlist-takes s pool (Some w) = record { next = omega arith; time = refl; spent = refl; depth = refl; flushes = refl }
 enlist-takes s pool None = stays 1 s
 
 pub fill_one-takes : (S : ScenarioContents) (queue pool : ℕ) (s : State) → Takes 1 s (fill_one S queue pool s)
 fill_one-takes S queue pool s = enlist-takes s pool (if has_room S s queue pool then first_inactive S s queue pool else None)
 
-fill_times-takes : (S : ScenarioContents) (queue pool n : ℕ) (s : State) → Takes n s (fill_times S queue pool n s)
+pub fill_times-takes : (S : ScenarioContents) (queue pool n : ℕ) (s : State) → Takes n s (fill_times S queue pool n s)
 fill_times-takes S queue pool zero s = stays 0 s
 fill_times-takes S queue pool (suc n) s =
     both 1 n (suc n) s (fill_one S queue pool s) (fill_times S queue pool n (fill_one S queue pool s)) (fill_one-takes S queue pool s) (fill_times-takes S queue pool n (fill_one S queue pool s)) (omega arith)
@@ -65,7 +65,7 @@ pub fill_everywhere-takes : (S : ScenarioContents) (queue : ℕ) (s : State) →
 fill_everywhere-takes S queue s setting =
     within (MAX_WORKS * pool_count S) most_everywhere s (fill_everywhere S queue s) (fill_pools-takes S queue (pool_count S) s setting) (omega (arith, setting.cpus))
 
-fill_if-takes : (S : ScenarioContents) (queue : ℕ) (s : State) (b : Bool) → IsSetting S → Takes most_everywhere s (if b then fill_everywhere S queue s else s)
+pub fill_if-takes : (S : ScenarioContents) (queue : ℕ) (s : State) (b : Bool) → IsSetting S → Takes most_everywhere s (if b then fill_everywhere S queue s else s)
 fill_if-takes S queue s true setting = fill_everywhere-takes S queue s setting
 fill_if-takes S queue s false setting = stays most_everywhere s
 
@@ -86,10 +86,10 @@ thaw-takes S s setting =
 
 -- Placing and taking off.
 
-place-takes : (S : ScenarioContents) (s : State) (w cpu : ℕ) → Takes 1 s (place S s w cpu)
+pub place-takes : (S : ScenarioContents) (s : State) (w cpu : ℕ) → Takes 1 s (place S s w cpu)
 place-takes S s w cpu = record { next = omega arith; time = refl; spent = refl; depth = refl; flushes = refl }
 
-place_after-takes : (S : ScenarioContents) (s : State) (w cpu ticks : ℕ) → Takes 1 s (place_after S s w cpu ticks)
+pub place_after-takes : (S : ScenarioContents) (s : State) (w cpu ticks : ℕ) → Takes 1 s (place_after S s w cpu ticks)
 place_after-takes S s w cpu zero = place-takes S s w cpu
 place_after-takes S s w cpu (suc ticks) = record { next = omega arith; time = refl; spent = refl; depth = refl; flushes = refl }
 
@@ -105,23 +105,23 @@ taken_off-takes S s w (Some p) setting =
     record { next = filled.next; time = filled.time; spent = filled.spent; depth = filled.depth; flushes = filled.flushes }
 taken_off-takes S s w None setting = stays MAX_WORKS s
 
-fired_to-takes : (S : ScenarioContents) (s : State) (w : ℕ) (at : Place) → Takes 1 s (fired_to S s w at)
+pub fired_to-takes : (S : ScenarioContents) (s : State) (w : ℕ) (at : Place) → Takes 1 s (fired_to S s w at)
 fired_to-takes S s w (Timer due cpu) = record { next = omega arith; time = refl; spent = refl; depth = refl; flushes = refl }
 fired_to-takes S s w (Inactive pool) = stays 1 s
 fired_to-takes S s w (Listed pool) = stays 1 s
 fired_to-takes S s w (Deferred pool) = stays 1 s
 
-fired-takes : (S : ScenarioContents) (s : State) (w : ℕ) (p : Option Pending) → Takes 1 s (fired S s w p)
+pub fired-takes : (S : ScenarioContents) (s : State) (w : ℕ) (p : Option Pending) → Takes 1 s (fired S s w p)
 fired-takes S s w (Some p) = fired_to-takes S s w p.place
 fired-takes S s w None = stays 1 s
 
 -- The moves of a pool.
 
-either-takes : (n : ℕ) (s : State) (b : Bool) (x y : State × Event) → Takes n s x.0 → Takes n s y.0 → Takes n s (cond {A = State × Event} b x y).0
+pub either-takes : (n : ℕ) (s : State) (b : Bool) (x y : State × Event) → Takes n s x.0 → Takes n s y.0 → Takes n s (cond {A = State × Event} b x y).0
 either-takes n s true x y a c = a
 either-takes n s false x y a c = c
 
-retire-takes : (s : State) (w : ℕ) (r : Running) (b : Bool) → Takes 1 s (cond {A = State} b (with_running s w None) (become_idle s w r))
+pub retire-takes : (s : State) (w : ℕ) (r : Running) (b : Bool) → Takes 1 s (cond {A = State} b (with_running s w None) (become_idle s w r))
 retire-takes s w r true = record { next = omega arith; time = refl; spent = refl; depth = refl; flushes = refl }
 retire-takes s w r false = record { next = omega arith; time = refl; spent = refl; depth = refl; flushes = refl }
 
@@ -134,24 +134,24 @@ come_to_end-takes s w r None = retire-takes s w r (is_rescuer r.worker)
 abbrev pub most_of_move : ℕ
 most_of_move = MAX_WORKS + 1
 
-finish-takes : (S : ScenarioContents) (s : State) (w : ℕ) (r : Running) → IsSetting S → Takes most_of_move s (finish S s w r).0
+pub finish-takes : (S : ScenarioContents) (s : State) (w : ℕ) (r : Running) → IsSetting S → Takes most_of_move s (finish S s w r).0
 finish-takes S s w r setting =
     let ended : State = (come_to_end s w r (pending_at s w)).0 in
     both 1 MAX_WORKS most_of_move s ended (fill S (queue_of S w) r.pool ended) (come_to_end-takes s w r (pending_at s w)) (fill-takes S (queue_of S w) r.pool ended setting) (omega arith)
 
-queue_from_body-takes : (S : ScenarioContents) (s : State) (other : WorkId) (cpu : ℕ) (b : Bool) (p : Option Pending) → Takes most_of_move s (queue_from_body S s other cpu b p).0
+pub queue_from_body-takes : (S : ScenarioContents) (s : State) (other : WorkId) (cpu : ℕ) (b : Bool) (p : Option Pending) → Takes most_of_move s (queue_from_body S s other cpu b p).0
 queue_from_body-takes S s other cpu true p = stays most_of_move s
 queue_from_body-takes S s other cpu false (Some p) = stays most_of_move s
 queue_from_body-takes S s other cpu false None = record { next = omega arith; time = refl; spent = refl; depth = refl; flushes = refl }
 
-delay_from_body-takes : (S : ScenarioContents) (s : State) (other : WorkId) (cpu ticks : ℕ) (b : Bool) (p : Option Pending)
+pub delay_from_body-takes : (S : ScenarioContents) (s : State) (other : WorkId) (cpu ticks : ℕ) (b : Bool) (p : Option Pending)
     → Takes most_of_move s (delay_from_body S s other cpu ticks b p).0
 delay_from_body-takes S s other cpu ticks true p = stays most_of_move s
 delay_from_body-takes S s other cpu ticks false (Some p) = stays most_of_move s
 delay_from_body-takes S s other cpu ticks false None =
     within 1 most_of_move s (place_after S s other.0 cpu ticks) (place_after-takes S s other.0 cpu ticks) (omega arith)
 
-mod_from_body-takes : (S : ScenarioContents) (s : State) (other : WorkId) (cpu ticks : ℕ) (b : Bool) (p : Option Pending) → IsSetting S
+pub mod_from_body-takes : (S : ScenarioContents) (s : State) (other : WorkId) (cpu ticks : ℕ) (b : Bool) (p : Option Pending) → IsSetting S
     → Takes most_of_move s (mod_from_body S s other cpu ticks b p).0
 mod_from_body-takes S s other cpu ticks true p setting = stays most_of_move s
 mod_from_body-takes S s other cpu ticks false p setting =
@@ -159,7 +159,7 @@ mod_from_body-takes S s other cpu ticks false p setting =
     both MAX_WORKS 1 most_of_move s off (place_after S off other.0 cpu ticks) (taken_off-takes S s other.0 p setting)
     (place_after-takes S off other.0 cpu ticks) (omega arith)
 
-carry_out-takes : (S : ScenarioContents) (s : State) (w : ℕ) (r : Running) (o : Op) → IsSetting S → Takes most_of_move s (carry_out S s w r o).0
+pub carry_out-takes : (S : ScenarioContents) (s : State) (w : ℕ) (r : Running) (o : Op) → IsSetting S → Takes most_of_move s (carry_out S s w r o).0
 carry_out-takes S s w r (op.Burn ticks) setting = record { next = omega arith; time = refl; spent = refl; depth = refl; flushes = refl }
 carry_out-takes S s w r (op.Sleep ticks) setting = record { next = omega arith; time = refl; spent = refl; depth = refl; flushes = refl }
 carry_out-takes S s w r (op.Queue other cpu) setting =
@@ -176,28 +176,28 @@ carry_out-takes S s w r (op.Cancel other) setting =
     let off = taken_off-takes S (onward s w r) other.0 (pending_at s other.0) setting in
     record { next = omega (arith, off.next); time = off.time; spent = off.spent; depth = off.depth; flushes = off.flushes }
 
-advance-takes : (S : ScenarioContents) (s : State) (w : ℕ) (r : Option Running) → IsSetting S → Takes most_of_move s (advance S s w r).0
+pub advance-takes : (S : ScenarioContents) (s : State) (w : ℕ) (r : Option Running) → IsSetting S → Takes most_of_move s (advance S s w r).0
 advance-takes S s w (Some r) setting = carry_out-takes S s w r (op_at S w r.pc) setting
 advance-takes S s w None setting = stays most_of_move s
 
-woken-takes : (s : State) (w : ℕ) (r : Option Running) → Takes most_of_move s (woken s w r)
+pub woken-takes : (s : State) (w : ℕ) (r : Option Running) → Takes most_of_move s (woken s w r)
 woken-takes s w (Some r) = record { next = omega arith; time = refl; spent = refl; depth = refl; flushes = refl }
 woken-takes s w None = stays most_of_move s
 
-started-takes : (s : State) (pool w : ℕ) (worker : Option ℕ) (p : Option Pending) → Takes most_of_move s (started s pool w worker p)
+pub started-takes : (s : State) (pool w : ℕ) (worker : Option ℕ) (p : Option Pending) → Takes most_of_move s (started s pool w worker p)
 started-takes s pool w (Some worker) (Some p) = record { next = omega arith; time = refl; spent = refl; depth = refl; flushes = refl }
 started-takes s pool w (Some worker) None = stays most_of_move s
 started-takes s pool w None p = stays most_of_move s
 
-deferred-takes : (s : State) (pool w : ℕ) (p : Option Pending) → Takes most_of_move s (deferred s pool w p)
+pub deferred-takes : (s : State) (pool w : ℕ) (p : Option Pending) → Takes most_of_move s (deferred s pool w p)
 deferred-takes s pool w (Some p) = record { next = omega arith; time = refl; spent = refl; depth = refl; flushes = refl }
 deferred-takes s pool w None = stays most_of_move s
 
-rescued-takes : (s : State) (pool w : ℕ) (p : Option Pending) → Takes most_of_move s (rescued s pool w p)
+pub rescued-takes : (s : State) (pool w : ℕ) (p : Option Pending) → Takes most_of_move s (rescued s pool w p)
 rescued-takes s pool w (Some p) = record { next = omega arith; time = refl; spent = refl; depth = refl; flushes = refl }
 rescued-takes s pool w None = stays most_of_move s
 
-moved-takes : (S : ScenarioContents) (s : State) (pool : ℕ) (move : Move) → IsSetting S → Takes most_of_move s (moved S s pool move).0
+pub moved-takes : (S : ScenarioContents) (s : State) (pool : ℕ) (move : Move) → IsSetting S → Takes most_of_move s (moved S s pool move).0
 moved-takes S s pool (Advance w) setting = advance-takes S s w.0 (running_at s w.0) setting
 moved-takes S s pool (Wake w) setting = woken-takes s w.0 (running_at s w.0)
 moved-takes S s pool (Start w) setting = started-takes s pool w.0 (free_worker S s pool) (pending_at s w.0)
@@ -255,7 +255,7 @@ next-costs S s None setting = step_or_tick-costs S s (first_moving S s) setting
 asks : (s : State) → Costs true s s
 asks s = record { next = omega arith; time = omega arith; spent = refl; depth = refl }
 
-holds-if : (b : Bool) (why : Refusal) → refuse_unless b why ≡ None → b ≡ true
+pub holds-if : (b : Bool) (why : Refusal) → refuse_unless b why ≡ None → b ≡ true
 holds-if true why e = refl
 holds-if false why e = cc
 

@@ -22,7 +22,7 @@ use Rattle.cmwq_types.specs.declared.reply.Reply.TheVariants as reply
 use Rattle.cmwq_types.specs.declared.scenario.Op.{Op}
 use Rattle.cmwq_types.specs.declared.scenario.Op.TheVariants as op
 use Rattle.cmwq_table.specs.Counts.{first_due, first_inactive, free_worker, has_room, is_busy, is_deferred, is_done, is_listed, or_else, pends, runs}
-use Rattle.cmwq_table.specs.Moves.{advance, begin_again, begin_on, carry_out, come_to_end, enlist, fill, fill_everywhere, fill_freezable, fill_from, fill_one, fill_pools, fill_times, filled, finish, fire, fired, fired_to, first_moving, freeze, moved, moved_work, newborn, next_move, onward, place, place_after, queue_from_body, delay_from_body, mod_from_body, pool_for, retire, started_on, take_off, taken_off, taking, tick, with_depth, with_flush, with_pending, with_pressed, with_running}
+use Rattle.cmwq_table.specs.Moves.{advance, begin_again, carry_out, come_to_end, enlist, fill, fill_everywhere, fill_freezable, fill_from, fill_one, fill_pools, fill_times, filled, fire, fired, fired_to, first_moving, freeze, moved, next_move, onward, place, place_after, queue_from_body, delay_from_body, mod_from_body, retire, take_off, taken_off, taking, with_depth, with_pending, with_pressed}
 use Rattle.cmwq_table.specs.Moves as moves
 use Rattle.cmwq_table.specs.State.{State, depth_at, is_disabled, pending_at, running_at}
 use Rattle.cmwq_table.specs.Table.{answer, cancelled, delayed, effect, fired_first, is_met, modified, next, next_unless, no_work, no_work_or_cpu, operands, queued, refuse_unless, situation, spent_all, step_or_tick, stepped, table, target_at, unsettled, while_enabled, yes_or_no}

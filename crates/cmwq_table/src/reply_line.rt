@@ -2,7 +2,7 @@
 ghost use Rattle.cmwq_table.specs.Events.{already_text, asked_name, changed_text, event_text, found_text, is_silent, outcome_text, place_text, refusal_text, reply_line, reply_words, run_text, was_text, worker_number};
 ghost use Rattle.std.specs.Prelude.{◌≡◌, Some};
 
-use cmwq_types::{Event, Instr, Mode, Outcome, Place, RESCUER, Refusal, Reply, Scenario, WorkId, WorkRun};
+use cmwq_types::{Event, Instr, Mode, Outcome, Place, RESCUER, Refusal, Reply, Scenario, WorkRun};
 use std::fmt;
 
 /// A reply at a time, to be printed for a reader of the scenario.

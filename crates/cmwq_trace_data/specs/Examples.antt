@@ -9,11 +9,11 @@ use Rattle.cmwq_events.specs.declared.kernel_event.Tracepoint.TheVariants as tra
 use Rattle.cmwq_events.specs.declared.kernel_task.KernelTask.{KernelTask}
 use Rattle.cmwq_events.specs.declared.kernel_task.KernelTask.TheVariants as task
 
-abbrev pub queue_named : List ℕ → QueueDecl
-queue_named name = record { name = name; max = 1; flags = plain_flags }
+abbrev pub plain_queue : List ℕ → QueueDecl
+plain_queue name = record { name = name; max = 1; flags = plain_flags }
 
-abbrev pub work_named : List ℕ → ℕ → WorkContents
-work_named name queue = record { name = name; queue = record { 0 = queue }; body = [] }
+abbrev pub plain_work : List ℕ → ℕ → WorkContents
+plain_work name queue = record { name = name; queue = record { 0 = queue }; body = [] }
 
 -- works x, y and z of the queues q, r and f, and the actor t
 abbrev pub relief : ScenarioContents
@@ -23,8 +23,8 @@ relief =
       workers = 2;
       steps = 100;
       flushes = 2;
-      queues = queue_named (codes "q") ∷ queue_named (codes "r") ∷ queue_named (codes "f") ∷ [];
-      works = work_named (codes "x") 0 ∷ work_named (codes "y") 1 ∷ work_named (codes "z") 2 ∷ [];
+      queues = plain_queue (codes "q") ∷ plain_queue (codes "r") ∷ plain_queue (codes "f") ∷ [];
+      works = plain_work (codes "x") 0 ∷ plain_work (codes "y") 1 ∷ plain_work (codes "z") 2 ∷ [];
       actors = record { name = codes "t"; lines = [] } ∷ [];
     }
 

@@ -1,6 +1,7 @@
--- The parts of a scenario by their numbers. A number that none has is read as the plainest one.
-use Rattle.std.specs.Prelude.{ℕ, ◌+◌, ◌*◌, ◌/◌, ◌%◌, Bool, false, ◌||◌, List, [], replicate, if◌then◌else◌, nat_le, ◌==◌, slice_index_or}
+-- The parts of a scenario by their numbers and names. A number that none has is read as the plainest one.
+use Rattle.std.specs.Prelude.{ℕ, ◌+◌, ◌*◌, ◌/◌, ◌%◌, Bool, false, ◌||◌, List, [], Option, position, replicate, if◌then◌else◌, nat_le, ◌==◌, slice_index_or}
 use Rattle.std.specs.List.{flat_map}
+use Rattle.std.specs.Str.{bytes_eq}
 use Rattle.cmwq_types.specs.Contents.{ScenarioContents, WorkContents, ActorContents}
 use Rattle.cmwq_types.specs.declared.instr.Instr.{Instr}
 use Rattle.cmwq_types.specs.declared.scenario.Flags.{Flags}
@@ -29,6 +30,17 @@ queue_of S work = (work_at S work).queue.0
 -- the operation at a place of a work's body
 abbrev pub op_at : ScenarioContents → ℕ → ℕ → Op
 op_at S work pc = slice_index_or (work_at S work).body pc Finish
+
+-- Names: the number of the first part that has it.
+
+abbrev pub work_named : ScenarioContents → List ℕ → Option ℕ
+work_named S name = position (λ work. bytes_eq work.name name) S.works
+
+abbrev pub queue_named : ScenarioContents → List ℕ → Option ℕ
+queue_named S name = position (λ queue. bytes_eq queue.name name) S.queues
+
+abbrev pub actor_named : ScenarioContents → List ℕ → Option ℕ
+actor_named S name = position (λ actor. bytes_eq actor.name name) S.actors
 
 -- Pools. CPU c has the normal pool 2c and the high pool 2c + 1; behind those of all CPUs stand the
 -- normal and the high unbound pool.

@@ -4,6 +4,7 @@
 //! Not proved: the texts of faults.
 #![tactic(auto)]
 
+mod by_name;
 mod by_number;
 mod check;
 mod copying;

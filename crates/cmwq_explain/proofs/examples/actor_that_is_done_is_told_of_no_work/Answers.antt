@@ -5,7 +5,7 @@ use Rattle.std.specs.Prelude.{if◌then◌else◌}
 use Rattle.cmwq_types.specs.Contents.{ScenarioContents}
 use Rattle.cmwq_table.specs.State.{State}
 use Rattle.cmwq_table.specs.Table.{table}
-use Rattle.cmwq_debug_lines.specs.Orders.{work_named}
+use Rattle.cmwq_types.specs.Scenario.{work_named}
 use Rattle.cmwq_question.specs.declared.question.Looks.TheVariants.{Settled}
 use Rattle.cmwq_explain.specs.Changes.{changes_text}
 use Rattle.cmwq_explain.specs.Examples.{to_the_end, two_works}
