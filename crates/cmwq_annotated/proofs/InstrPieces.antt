@@ -66,9 +66,12 @@ queue_at_piece (q ∷ queues) (suc queue) are = queue_at_piece queues queue are.
 module _ (S : ScenarioContents) (works : AllByRecursion IsWorkDecl S.works) (queues : AllByRecursion IsQueueDecl S.queues) where
   words : (m : Mnemonic) (s : Shape) (f : Fields) → AreFields s f → Piece 90 (join_with_byte 32 (spelling m ∷ operand_words S s f))
   words m shape.Alone f are = within 90 (spelled m) refl
+  words m shape.Ticks f are = within 90 (spaced (spelled m) (number f.number (omega (arith, are)))) refl
   words m shape.Work f are = within 90 (spaced (spelled m) (work_at_piece S.works f.id works)) refl
   words m shape.WorkCpu f are =
       within 90 (spaced (spelled m) (spaced (work_at_piece S.works f.id works) (number f.cpu (omega (arith, are.1))))) refl
+  words m shape.WorkTicks f are =
+      within 90 (spaced (spelled m) (spaced (work_at_piece S.works f.id works) (number f.number (omega (arith, are.1))))) refl
   words m shape.WorkCpuTicks f are =
       within 90
       (spaced (spelled m) (spaced (work_at_piece S.works f.id works) (spaced (number f.cpu (omega (arith, are.1))) (number f.number (omega (arith, are.2))))))

@@ -92,6 +92,10 @@ fn read_fields<'t>(draft: &Draft, shape: Shape, rest: &'t [u8]) -> Field<'t, Fie
 {
     match shape {
         Shape::Alone => Ok((Fields::new(0, 0, 0), rest)),
+        Shape::Ticks | Shape::Time => {
+            let (number, rest) = read_number(u32::MAX, rest)?;
+            Ok((Fields::new(0, 0, number), rest))
+        }
         Shape::Work => {
             let (work, rest) = read_work(draft, rest)?;
             Ok((Fields::new(0, work, 0), rest))
@@ -100,6 +104,11 @@ fn read_fields<'t>(draft: &Draft, shape: Shape, rest: &'t [u8]) -> Field<'t, Fie
             let (work, rest) = read_work(draft, rest)?;
             let (cpu, rest) = take_number_within(0, 255, rest)?;
             Ok((Fields::new(cpu as u8, work, 0), rest))
+        }
+        Shape::WorkTicks => {
+            let (work, rest) = read_work(draft, rest)?;
+            let (ticks, rest) = take_number_within(0, u32::MAX, rest)?;
+            Ok((Fields::new(0, work, ticks), rest))
         }
         Shape::WorkCpuTicks => {
             let (work, rest) = read_work(draft, rest)?;
@@ -123,10 +132,6 @@ fn read_fields<'t>(draft: &Draft, shape: Shape, rest: &'t [u8]) -> Field<'t, Fie
         Shape::Flush => {
             let (flush, rest) = read_number(65535, rest)?;
             Ok((Fields::new(0, flush as u16, 0), rest))
-        }
-        Shape::Time => {
-            let (time, rest) = read_number(u32::MAX, rest)?;
-            Ok((Fields::new(0, 0, time), rest))
         }
     }
 }

@@ -40,8 +40,10 @@ pub data Operands : Type 0 where
 -- what stands behind a word of this shape: its operands are made into the instruction
 abbrev pub operands_in : Shape → (Fields → Instr) → Operands
 operands_in shape.Alone make = Makes (make (fields 0 0 0))
+operands_in shape.Ticks make = OfNumber 4294967295 (λ ticks. Makes (make (fields 0 0 ticks)))
 operands_in shape.Work make = OfWork (λ work. Makes (make (fields 0 work.0 0)))
 operands_in shape.WorkCpu make = OfWork (λ work. OfNumber 255 (λ cpu. Makes (make (fields cpu work.0 0))))
+operands_in shape.WorkTicks make = OfWork (λ work. OfNumber 4294967295 (λ ticks. Makes (make (fields 0 work.0 ticks))))
 operands_in shape.WorkCpuTicks make = OfWork (λ work. OfNumber 255 (λ cpu. OfNumber 4294967295 (λ ticks. Makes (make (fields cpu work.0 ticks)))))
 operands_in shape.Queue make = OfQueue (λ queue. Makes (make (fields 0 queue.0 0)))
 operands_in shape.QueueNumber make = OfQueue (λ queue. OfNumber 4294967295 (λ n. Makes (make (fields 0 queue.0 n))))

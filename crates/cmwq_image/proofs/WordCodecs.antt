@@ -8,20 +8,21 @@ use Rattle.cmwq_types.specs.declared.instr.Instr.{Instr}
 use Rattle.cmwq_types.specs.declared.instr.Instr.TheVariants as instr
 use Rattle.cmwq_types.specs.declared.scenario.Op.{Op}
 use Rattle.cmwq_types.specs.declared.scenario.Op.TheVariants as op
-use Rattle.cmwq_image.specs.Image.{in_order, number, word, word_image, op_word, instr_word, last_op_tag, last_tag, tag_of}
-use Rattle.cmwq_image.specs.ImageFault.{◌>>=◌, done, field, read_number, op_tag_of, op_tagged, op_room, op_of, read_op, first_tagged, tagged, instr_room, shape_room, read_instr}
-use Rattle.cmwq_types.proofs.FieldLemmas.{word_again}
+use Rattle.cmwq_image.specs.Image.{in_order, number, word, word_image, op_tag, op_word, instr_word, last_op_tag, last_tag, tag_of}
+use Rattle.cmwq_image.specs.ImageFault.{◌>>=◌, done, field, read_number, first_with, op_tagged, op_room, read_op, tagged, instr_room, shape_room, read_instr}
+use Rattle.cmwq_types.proofs.FieldLemmas.{op_word_again, word_again}
 use Rattle.cmwq_types.specs.Fields.{fields, fields_of, instr_of, shape_of, word_of}
 use Rattle.cmwq_types.specs.Mnemonics.{mnemonics}
+use Rattle.cmwq_types.specs.Operations.{op_fields_of, op_shape_of, op_with, op_word_of, op_words}
 use Rattle.cmwq_types.specs.Values.{AreFields, IsOp, IsInstr}
 use Rattle.cmwq_types.specs.declared.fields.Fields.{Fields}
 use Rattle.cmwq_types.specs.declared.fields.Shape.{Shape}
 use Rattle.cmwq_types.specs.declared.fields.Shape.TheVariants as shape
 use Rattle.cmwq_types.specs.declared.mnemonic.Mnemonic.{Mnemonic}
 use Rattle.cmwq_types.specs.declared.mnemonic.Mnemonic.TheVariants as mnemonic
+use Rattle.cmwq_types.specs.declared.operation.OpWord.{OpWord}
+use Rattle.cmwq_types.specs.declared.operation.OpWord.TheVariants as words_of
 use Rattle.cmwq_image.specs.declared.error.ImageError.TheVariants as errors
-use Rattle.cmwq_image.specs.declared.tags.OpTag.{OpTag}
-use Rattle.cmwq_image.specs.declared.tags.OpTag.TheVariants as op_tag
 use Rattle.cmwq_image.specs.declared.word.FieldRoom.{FieldRoom}
 use Rattle.cmwq_image.specs.declared.word.Word.{Word}
 use Rattle.cmwq_image.proofs.Codec.{Codec, Meaning, of_field, bad_field, nothing, one_then}
@@ -186,146 +187,86 @@ is_up_to n last found small = ap (λ b. cond b found None) (is_at_most n last sm
 plain : (tag cpu a n c b m : ℕ) → cpu ≡ c → a ≡ b → n ≡ m → word tag cpu a n ≡ word tag c b m
 plain tag cpu a n c b m e f g = ap (λ x. word tag x a n) e ∙ ap (λ x. word tag c x n) f ∙ ap (λ x. word tag c b x) g
 
+-- what has room in the fields of this shape is operands of the shape
+shape_fits : (s : Shape) (f : Fields) → Within (shape_room s) f.cpu f.id f.number → AreFields s f
+shape_fits shape.Alone f h = tt
+shape_fits shape.Ticks f h = omega (arith, h.n_fits)
+shape_fits shape.Work f h = omega (arith, h.a_fits)
+shape_fits shape.WorkCpu f h = (omega (arith, h.a_fits), omega (arith, h.cpu_fits))
+shape_fits shape.WorkTicks f h = (omega (arith, h.a_fits), omega (arith, h.n_fits))
+shape_fits shape.WorkCpuTicks f h = (omega (arith, h.a_fits), omega (arith, h.cpu_fits), omega (arith, h.n_fits))
+shape_fits shape.Queue f h = omega (arith, h.a_fits)
+shape_fits shape.QueueNumber f h = (omega (arith, h.a_fits), omega (arith, h.n_fits))
+shape_fits shape.Pool f h = omega (arith, h.cpu_fits)
+shape_fits shape.Flush f h = omega (arith, h.a_fits)
+shape_fits shape.Time f h = omega (arith, h.n_fits)
+
+first_known : {W : Type 0} (tag : W → ℕ) (ms : List W) (n : ℕ) (m : W) → first_with tag ms n ≡ Some m → n ≡ tag m
+first_known tag [] n m e = absurd cc
+first_known tag (x ∷ ms) n m e = pick tag n (tag x) x m (first_with tag ms n) refl (first_known tag ms n m) e
+
 -- ---- operations
 
-abbrev op_code : OpTag → ℕ
-op_code op_tag.Burn = 1
-op_code op_tag.Sleep = 2
-op_code op_tag.Queue = 3
-op_code op_tag.Finish = 4
-op_code op_tag.Delay = 5
-op_code op_tag.Mod = 6
-op_code op_tag.Cancel = 7
+-- each line of these tables by the same steps
 
-abbrev op_tag_is : Op → OpTag
-op_tag_is (op.Burn ticks) = op_tag.Burn
-op_tag_is (op.Sleep ticks) = op_tag.Sleep
-op_tag_is (op.Queue work cpu) = op_tag.Queue
-op_tag_is op.Finish = op_tag.Finish
-op_tag_is (op.Delay work ticks) = op_tag.Delay
-op_tag_is (op.Mod work ticks) = op_tag.Mod
-op_tag_is (op.Cancel work) = op_tag.Cancel
+op_small : (m : OpWord) → op_tag m < 256
+op_small words_of.Burn = omega arith
+op_small _ = omega arith
 
-op_small : (t : OpTag) → op_code t < 256
-op_small op_tag.Burn = omega arith
-op_small op_tag.Sleep = omega arith
-op_small op_tag.Queue = omega arith
-op_small op_tag.Finish = omega arith
-op_small op_tag.Delay = omega arith
-op_small op_tag.Mod = omega arith
-op_small op_tag.Cancel = omega arith
+op_found : (m : OpWord) → first_with op_tag op_words (op_tag m) ≡ Some m
+op_found words_of.Burn = refl
+op_found _ = refl
 
-op_found : (t : OpTag) → op_tag_of (op_code t) ≡ Some t
-op_found op_tag.Burn = refl
-op_found op_tag.Sleep = refl
-op_found op_tag.Queue = refl
-op_found op_tag.Finish = refl
-op_found op_tag.Delay = refl
-op_found op_tag.Mod = refl
-op_found op_tag.Cancel = refl
+op_is_room : (m : OpWord) → IsRoom (op_room m)
+op_is_room words_of.Burn = record { cpu_fits = omega arith; a_fits = omega arith; n_fits = omega arith }
+op_is_room _ = record { cpu_fits = omega arith; a_fits = omega arith; n_fits = omega arith }
 
-op_is_room : (t : OpTag) → IsRoom (op_room t)
-op_is_room op_tag.Burn = record { cpu_fits = omega arith; a_fits = omega arith; n_fits = omega arith }
-op_is_room op_tag.Sleep = record { cpu_fits = omega arith; a_fits = omega arith; n_fits = omega arith }
-op_is_room op_tag.Queue = record { cpu_fits = omega arith; a_fits = omega arith; n_fits = omega arith }
-op_is_room op_tag.Finish = record { cpu_fits = omega arith; a_fits = omega arith; n_fits = omega arith }
-op_is_room op_tag.Delay = record { cpu_fits = omega arith; a_fits = omega arith; n_fits = omega arith }
-op_is_room op_tag.Mod = record { cpu_fits = omega arith; a_fits = omega arith; n_fits = omega arith }
-op_is_room op_tag.Cancel = record { cpu_fits = omega arith; a_fits = omega arith; n_fits = omega arith }
-
-op_has_code : (x : Op) → (op_word x).tag ≡ op_code (op_tag_is x)
-op_has_code (op.Burn ticks) = refl
-op_has_code (op.Sleep ticks) = refl
-op_has_code (op.Queue work cpu) = refl
-op_has_code op.Finish = refl
-op_has_code (op.Delay work ticks) = refl
-op_has_code (op.Mod work ticks) = refl
-op_has_code (op.Cancel work) = refl
-
-op_within : (x : Op) → IsOp x → Within (op_room (op_tag_is x)) (op_word x).cpu (op_word x).a (op_word x).n
+op_within : (x : Op) → IsOp x → Within (op_room (op_word_of x)) (op_word x).cpu (op_word x).a (op_word x).n
 op_within (op.Burn ticks) h = record { cpu_fits = omega arith; a_fits = omega arith; n_fits = omega arith }
-op_within (op.Sleep ticks) h = record { cpu_fits = omega arith; a_fits = omega arith; n_fits = omega arith }
-op_within (op.Queue work cpu) h = record { cpu_fits = omega arith; a_fits = omega arith; n_fits = omega arith }
-op_within op.Finish h = record { cpu_fits = omega arith; a_fits = omega arith; n_fits = omega arith }
-op_within (op.Delay work ticks) h = record { cpu_fits = omega arith; a_fits = omega arith; n_fits = omega arith }
-op_within (op.Mod work ticks) h = record { cpu_fits = omega arith; a_fits = omega arith; n_fits = omega arith }
-op_within (op.Cancel work) h = record { cpu_fits = omega arith; a_fits = omega arith; n_fits = omega arith }
+op_within _ h = record { cpu_fits = omega arith; a_fits = omega arith; n_fits = omega arith }
 
-op_fits : (x : Op) → Within (op_room (op_tag_is x)) (op_word x).cpu (op_word x).a (op_word x).n → IsOp x
-op_fits (op.Burn ticks) h = omega (arith, h.n_fits)
-op_fits (op.Sleep ticks) h = omega (arith, h.n_fits)
-op_fits (op.Queue work cpu) h = (omega (arith, h.a_fits), omega (arith, h.cpu_fits))
-op_fits op.Finish h = tt
-op_fits (op.Delay work ticks) h = (omega (arith, h.a_fits), omega (arith, h.n_fits))
-op_fits (op.Mod work ticks) h = (omega (arith, h.a_fits), omega (arith, h.n_fits))
-op_fits (op.Cancel work) h = omega (arith, h.a_fits)
+op_fits : (x : Op) → Within (op_room (op_word_of x)) (op_word x).cpu (op_word x).a (op_word x).n → IsOp x
+op_fits x h = shape_fits (op_shape_of (op_word_of x)) (op_fields_of x) h
 
-op_made_tag : (t : OpTag) (cpu a n : ℕ) → op_tag_is (op_of t cpu a n) ≡ t
-op_made_tag op_tag.Burn cpu a n = refl
-op_made_tag op_tag.Sleep cpu a n = refl
-op_made_tag op_tag.Queue cpu a n = refl
-op_made_tag op_tag.Finish cpu a n = refl
-op_made_tag op_tag.Delay cpu a n = refl
-op_made_tag op_tag.Mod cpu a n = refl
-op_made_tag op_tag.Cancel cpu a n = refl
+abbrev op_made : OpWord → (cpu a n : ℕ) → Op
+op_made m cpu a n = op_with m (fields cpu a n)
 
-op_made_word : (t : OpTag) (cpu a n : ℕ) → Within (op_room t) cpu a n → op_word (op_of t cpu a n) ≡ word (op_code t) cpu a n
-op_made_word op_tag.Burn cpu a n h = plain 1 0 0 n cpu a n (omega (arith, h.cpu_fits)) (omega (arith, h.a_fits)) (omega (arith, h.n_fits))
-op_made_word op_tag.Sleep cpu a n h = plain 2 0 0 n cpu a n (omega (arith, h.cpu_fits)) (omega (arith, h.a_fits)) (omega (arith, h.n_fits))
-op_made_word op_tag.Queue cpu a n h = plain 3 cpu a 0 cpu a n (omega (arith, h.cpu_fits)) (omega (arith, h.a_fits)) (omega (arith, h.n_fits))
-op_made_word op_tag.Finish cpu a n h = plain 4 0 0 0 cpu a n (omega (arith, h.cpu_fits)) (omega (arith, h.a_fits)) (omega (arith, h.n_fits))
-op_made_word op_tag.Delay cpu a n h = plain 5 0 a n cpu a n (omega (arith, h.cpu_fits)) (omega (arith, h.a_fits)) (omega (arith, h.n_fits))
-op_made_word op_tag.Mod cpu a n h = plain 6 0 a n cpu a n (omega (arith, h.cpu_fits)) (omega (arith, h.a_fits)) (omega (arith, h.n_fits))
-op_made_word op_tag.Cancel cpu a n h = plain 7 0 a 0 cpu a n (omega (arith, h.cpu_fits)) (omega (arith, h.a_fits)) (omega (arith, h.n_fits))
+op_made_tag : (m : OpWord) (cpu a n : ℕ) → op_word_of (op_made m cpu a n) ≡ m
+op_made_tag m cpu a n = op_word_again m (fields cpu a n)
 
-op_again : (x : Op) → op_of (op_tag_is x) (op_word x).cpu (op_word x).a (op_word x).n ≡ x
+op_made_word : (m : OpWord) (cpu a n : ℕ) → Within (op_room m) cpu a n → op_word (op_made m cpu a n) ≡ word (op_tag m) cpu a n
+op_made_word words_of.Burn cpu a n h = plain 1 0 0 n cpu a n (omega (arith, h.cpu_fits)) (omega (arith, h.a_fits)) (omega (arith, h.n_fits))
+op_made_word _ cpu a n h = plain _ _ _ _ cpu a n (omega (arith, h.cpu_fits)) (omega (arith, h.a_fits)) (omega (arith, h.n_fits))
+
+op_again : (x : Op) → op_with (op_word_of x) (fields (op_word x).cpu (op_word x).a (op_word x).n) ≡ x
 op_again (op.Burn ticks) = refl
-op_again (op.Sleep ticks) = refl
-op_again (op.Queue work cpu) = refl
-op_again op.Finish = refl
-op_again (op.Delay work ticks) = refl
-op_again (op.Mod work ticks) = refl
-op_again (op.Cancel work) = refl
-
-op_known : (n : ℕ) (t : OpTag) → op_tag_of n ≡ Some t → n ≡ op_code t
-op_known n t =
-    pick op_code n 1 op_tag.Burn t _ refl (
-    pick op_code n 2 op_tag.Sleep t _ refl (
-    pick op_code n 3 op_tag.Queue t _ refl (
-    pick op_code n 4 op_tag.Finish t _ refl (
-    pick op_code n 5 op_tag.Delay t _ refl (
-    pick op_code n 6 op_tag.Mod t _ refl (
-    pick op_code n 7 op_tag.Cancel t _ refl (
-    λ never. absurd cc)))))))
+op_again _ = refl
 
 -- the operation of a version
 abbrev pub OpFits : ℕ → Op → Type 0
 OpFits version o = IsOp o × ((op_word o).tag ≤ last_op_tag version)
 
 -- each version has the first tag
-burn_found : (version : ℕ) → op_tagged version 1 ≡ Some op_tag.Burn
+burn_found : (version : ℕ) → op_tagged version 1 ≡ Some words_of.Burn
 burn_found version = go (nat_le version 3)
   where
-    go : (b : Bool) → cond (nat_le 1 (cond b 4 7)) (op_tag_of 1) None ≡ Some op_tag.Burn
+    go : (b : Bool) → cond (nat_le 1 (cond b 4 7)) (first_with op_tag op_words 1) None ≡ Some words_of.Burn
     go true = refl
     go false = refl
 
-op_laws : (version : ℕ) → WordLaws op_code (op_tagged version) op_room op_of op_tag_is op_word (OpFits version)
+op_laws : (version : ℕ) → WordLaws op_tag (op_tagged version) op_room op_made op_word_of op_word (OpFits version)
 op_laws version = record {
   small = op_small;
-  known = λ n t e. op_known n t (up_to n (last_op_tag version) (op_tag_of n) t e).0;
-  some = op_tag.Burn;
+  known = λ n t e. first_known op_tag op_words n t (up_to n (last_op_tag version) (first_with op_tag op_words n) t e).0;
+  some = words_of.Burn;
   some_found = burn_found version;
   is_room = op_is_room;
-  tagged = op_has_code;
-  found = λ x h.
-      is_up_to (op_code (op_tag_is x)) (last_op_tag version) (op_tag_of (op_code (op_tag_is x))) (subst (λ n. n ≤ last_op_tag version) (op_has_code x) h.1)
-      ∙ op_found (op_tag_is x);
+  tagged = λ x. refl;
+  found = λ x h. is_up_to (op_tag (op_word_of x)) (last_op_tag version) (first_with op_tag op_words (op_tag (op_word_of x))) h.1 ∙ op_found (op_word_of x);
   within = λ x h. op_within x h.0;
   fits = λ x found h. (
     op_fits x h,
-    subst (λ n. n ≤ last_op_tag version) (sym (op_has_code x))
-        (up_to (op_code (op_tag_is x)) (last_op_tag version) (op_tag_of (op_code (op_tag_is x))) (op_tag_is x) found).1,
+    (up_to (op_tag (op_word_of x)) (last_op_tag version) (first_with op_tag op_words (op_tag (op_word_of x))) (op_word_of x) found).1,
   );
   made_tag = op_made_tag;
   made_word = op_made_word;
@@ -334,7 +275,7 @@ op_laws version = record {
 
 pub ops : (version : ℕ) → Codec (read_op version) (λ x. word_image (op_word x)) (OpFits version)
 unfolding read_op
-ops version = words op_code (op_tagged version) op_room op_of op_tag_is op_word (OpFits version) (op_laws version)
+ops version = words op_tag (op_tagged version) op_room op_made op_word_of op_word (OpFits version) (op_laws version)
 
 -- ---- instructions
 
@@ -344,7 +285,7 @@ instr_small : (m : Mnemonic) → tag_of m < 256
 instr_small mnemonic.Queue = omega arith
 instr_small _ = omega arith
 
-instr_found : (m : Mnemonic) → first_tagged mnemonics (tag_of m) ≡ Some m
+instr_found : (m : Mnemonic) → first_with tag_of mnemonics (tag_of m) ≡ Some m
 instr_found mnemonic.Queue = refl
 instr_found _ = refl
 
@@ -355,18 +296,6 @@ instr_is_room _ = record { cpu_fits = omega arith; a_fits = omega arith; n_fits 
 instr_within : (x : Instr) → IsInstr x → Within (instr_room (word_of x)) (instr_word x).cpu (instr_word x).a (instr_word x).n
 instr_within (instr.Queue work cpu) h = record { cpu_fits = omega arith; a_fits = omega arith; n_fits = omega arith }
 instr_within _ h = record { cpu_fits = omega arith; a_fits = omega arith; n_fits = omega arith }
-
--- what has room behind a word of this shape is operands of the shape
-shape_fits : (s : Shape) (f : Fields) → Within (shape_room s) f.cpu f.id f.number → AreFields s f
-shape_fits shape.Alone f h = tt
-shape_fits shape.Work f h = omega (arith, h.a_fits)
-shape_fits shape.WorkCpu f h = (omega (arith, h.a_fits), omega (arith, h.cpu_fits))
-shape_fits shape.WorkCpuTicks f h = (omega (arith, h.a_fits), omega (arith, h.cpu_fits), omega (arith, h.n_fits))
-shape_fits shape.Queue f h = omega (arith, h.a_fits)
-shape_fits shape.QueueNumber f h = (omega (arith, h.a_fits), omega (arith, h.n_fits))
-shape_fits shape.Pool f h = omega (arith, h.cpu_fits)
-shape_fits shape.Flush f h = omega (arith, h.a_fits)
-shape_fits shape.Time f h = omega (arith, h.n_fits)
 
 instr_fits : (x : Instr) → Within (instr_room (word_of x)) (instr_word x).cpu (instr_word x).a (instr_word x).n → IsInstr x
 instr_fits x h = shape_fits (shape_of (word_of x)) (fields_of x) h
@@ -382,10 +311,6 @@ instr_again : (x : Instr) → instr_of (word_of x) (fields (instr_word x).cpu (i
 instr_again (instr.Queue work cpu) = refl
 instr_again _ = refl
 
-first_known : (ms : List Mnemonic) (n : ℕ) (m : Mnemonic) → first_tagged ms n ≡ Some m → n ≡ tag_of m
-first_known [] n m e = absurd cc
-first_known (x ∷ ms) n m e = pick tag_of n (tag_of x) x m (first_tagged ms n) refl (first_known ms n m) e
-
 abbrev made_of : Mnemonic → (cpu a n : ℕ) → Instr
 made_of m cpu a n = instr_of m (fields cpu a n)
 
@@ -397,7 +322,7 @@ InstrFits version i = IsInstr i × ((instr_word i).tag ≤ last_tag version)
 queue_found : (version : ℕ) → tagged version 16 ≡ Some mnemonic.Queue
 queue_found version = go (eqb version 1) (eqb version 2) (eqb version 3)
   where
-    go : (b c d : Bool) → cond (nat_le 16 (cond b 33 (cond c 35 (cond d 37 40)))) (first_tagged mnemonics 16) None ≡ Some mnemonic.Queue
+    go : (b c d : Bool) → cond (nat_le 16 (cond b 33 (cond c 35 (cond d 37 40)))) (first_with tag_of mnemonics 16) None ≡ Some mnemonic.Queue
     go true c d = refl
     go false true d = refl
     go false false true = refl
@@ -406,16 +331,16 @@ queue_found version = go (eqb version 1) (eqb version 2) (eqb version 3)
 instr_laws : (version : ℕ) → WordLaws tag_of (tagged version) instr_room made_of word_of instr_word (InstrFits version)
 instr_laws version = record {
   small = instr_small;
-  known = λ n t e. first_known mnemonics n t (up_to n (last_tag version) (first_tagged mnemonics n) t e).0;
+  known = λ n t e. first_known tag_of mnemonics n t (up_to n (last_tag version) (first_with tag_of mnemonics n) t e).0;
   some = mnemonic.Queue;
   some_found = queue_found version;
   is_room = instr_is_room;
   tagged = λ x. refl;
-  found = λ x h. is_up_to (tag_of (word_of x)) (last_tag version) (first_tagged mnemonics (tag_of (word_of x))) h.1 ∙ instr_found (word_of x);
+  found = λ x h. is_up_to (tag_of (word_of x)) (last_tag version) (first_with tag_of mnemonics (tag_of (word_of x))) h.1 ∙ instr_found (word_of x);
   within = λ x h. instr_within x h.0;
   fits = λ x found h. (
     instr_fits x h,
-    (up_to (tag_of (word_of x)) (last_tag version) (first_tagged mnemonics (tag_of (word_of x))) (word_of x) found).1,
+    (up_to (tag_of (word_of x)) (last_tag version) (first_with tag_of mnemonics (tag_of (word_of x))) (word_of x) found).1,
   );
   made_tag = instr_made_tag;
   made_word = instr_made_word;

@@ -5,13 +5,15 @@ use Rattle.std.specs.List.{flat_map}
 use Rattle.cmwq_types.specs.Contents.{ScenarioContents, WorkContents, ActorContents}
 use Rattle.cmwq_types.specs.Fields.{fields_of, word_of}
 use Rattle.cmwq_types.specs.Name.{padded}
+use Rattle.cmwq_types.specs.Operations.{op_fields_of, op_word_of}
 use Rattle.cmwq_types.specs.declared.instr.Instr.{Instr}
 use Rattle.cmwq_types.specs.declared.mnemonic.Mnemonic.{Mnemonic}
 use Rattle.cmwq_types.specs.declared.mnemonic.Mnemonic.TheVariants as mnemonic
+use Rattle.cmwq_types.specs.declared.operation.OpWord.{OpWord}
+use Rattle.cmwq_types.specs.declared.operation.OpWord.TheVariants as opword
 use Rattle.cmwq_types.specs.declared.scenario.Flags.{Flags}
 use Rattle.cmwq_types.specs.declared.scenario.Line.{Line}
 use Rattle.cmwq_types.specs.declared.scenario.Op.{Op}
-use Rattle.cmwq_types.specs.declared.scenario.Op.TheVariants as op
 use Rattle.cmwq_types.specs.declared.scenario.QueueDecl.{QueueDecl}
 use Rattle.cmwq_image.specs.declared.version.TheConstants.{FIRST_VERSION, SECOND_VERSION, THIRD_VERSION}
 use Rattle.cmwq_image.specs.declared.word.Word.{Word}
@@ -56,14 +58,19 @@ word tag cpu a n = record { tag = tag; cpu = cpu; a = a; n = n }
 abbrev pub word_image : Word → List ℕ
 word_image w = in_order (number w8 w.tag ∷ number w8 w.cpu ∷ number w16 w.a ∷ number w32 w.n ∷ [])
 
+-- the tag of an operation's word
+abbrev pub op_tag : OpWord → ℕ
+op_tag opword.Burn = 1
+op_tag opword.Sleep = 2
+op_tag opword.Queue = 3
+op_tag opword.Finish = 4
+op_tag opword.Delay = 5
+op_tag opword.Mod = 6
+op_tag opword.Cancel = 7
+
+-- the tag, and then the operands
 abbrev pub op_word : Op → Word
-op_word (op.Burn ticks) = word 1 0 0 ticks
-op_word (op.Sleep ticks) = word 2 0 0 ticks
-op_word (op.Queue work cpu) = word 3 cpu work.0 0
-op_word op.Finish = word 4 0 0 0
-op_word (op.Delay work ticks) = word 5 0 work.0 ticks
-op_word (op.Mod work ticks) = word 6 0 work.0 ticks
-op_word (op.Cancel work) = word 7 0 work.0 0
+op_word op = let f = op_fields_of op in word (op_tag (op_word_of op)) f.cpu f.id f.number
 
 -- the last tag of an operation that a version has
 abbrev pub last_op_tag : ℕ → ℕ

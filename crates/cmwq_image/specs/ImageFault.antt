@@ -7,23 +7,22 @@ use Rattle.cmwq_types.specs.Faults.{first_fault, within}
 use Rattle.cmwq_types.specs.Fields.{fields, instr_of, shape_of}
 use Rattle.cmwq_types.specs.Mnemonics.{mnemonics}
 use Rattle.cmwq_types.specs.Name.{is_name}
+use Rattle.cmwq_types.specs.Operations.{op_shape_of, op_with, op_words}
 use Rattle.cmwq_types.specs.declared.check.Fault.{Fault}
 use Rattle.cmwq_types.specs.declared.fields.Shape.{Shape}
 use Rattle.cmwq_types.specs.declared.fields.Shape.TheVariants as shape
 use Rattle.cmwq_types.specs.declared.instr.Instr.{Instr}
 use Rattle.cmwq_types.specs.declared.limits.TheConstants.{MAX_QUEUES, MAX_WORKS, MAX_ACTORS, MAX_OPS, MAX_LINES}
 use Rattle.cmwq_types.specs.declared.mnemonic.Mnemonic.{Mnemonic}
+use Rattle.cmwq_types.specs.declared.operation.OpWord.{OpWord}
 use Rattle.cmwq_types.specs.declared.scenario.Flags.{Flags}
 use Rattle.cmwq_types.specs.declared.scenario.Line.{Line}
 use Rattle.cmwq_types.specs.declared.scenario.Op.{Op}
-use Rattle.cmwq_types.specs.declared.scenario.Op.TheVariants as op
 use Rattle.cmwq_types.specs.declared.scenario.QueueDecl.{QueueDecl}
-use Rattle.cmwq_image.specs.Image.{all_flags, last_op_tag, last_tag, magic, name_field, tag_of}
+use Rattle.cmwq_image.specs.Image.{all_flags, last_op_tag, last_tag, magic, name_field, op_tag, tag_of}
 use Rattle.cmwq_image.specs.declared.error.ImageError.{ImageError}
 use Rattle.cmwq_image.specs.declared.error.ImageError.TheVariants as errors
 use Rattle.cmwq_image.specs.declared.head.Head.{Head}
-use Rattle.cmwq_image.specs.declared.tags.OpTag.{OpTag}
-use Rattle.cmwq_image.specs.declared.tags.OpTag.TheVariants as op_tag
 use Rattle.cmwq_image.specs.declared.version.TheConstants.{FIRST_VERSION, VERSION}
 use Rattle.cmwq_image.specs.declared.word.FieldRoom.{FieldRoom}
 
@@ -130,71 +129,46 @@ read_queue version = do
 abbrev pub room : (cpu a n : ℕ) → FieldRoom
 room cpu a n = record { cpu = cpu; a = a; n = n }
 
-abbrev pub op_tag_of : ℕ → Option OpTag
-op_tag_of n =
-    if n == 1 then Some op_tag.Burn
-    else (if n == 2 then Some op_tag.Sleep
-    else (if n == 3 then Some op_tag.Queue
-    else (if n == 4 then Some op_tag.Finish
-    else (if n == 5 then Some op_tag.Delay
-    else (if n == 6 then Some op_tag.Mod
-    else (if n == 7 then Some op_tag.Cancel
-    else None))))))
-
--- the tag with this number, if the version has it
-abbrev pub op_tagged : (version n : ℕ) → Option OpTag
-op_tagged version n = if nat_le n (last_op_tag version) then op_tag_of n else None
-
-abbrev pub op_room : OpTag → FieldRoom
-op_room op_tag.Burn = room 0 0 4294967295
-op_room op_tag.Sleep = room 0 0 4294967295
-op_room op_tag.Queue = room 255 65535 0
-op_room op_tag.Finish = room 0 0 0
-op_room op_tag.Delay = room 0 65535 4294967295
-op_room op_tag.Mod = room 0 65535 4294967295
-op_room op_tag.Cancel = room 0 65535 0
-
--- the operation of a tag, with the fields of its word
-abbrev pub op_of : OpTag → (cpu a n : ℕ) → Op
-op_of op_tag.Burn cpu a n = op.Burn n
-op_of op_tag.Sleep cpu a n = op.Sleep n
-op_of op_tag.Queue cpu a n = op.Queue (record { 0 = a }) cpu
-op_of op_tag.Finish cpu a n = op.Finish
-op_of op_tag.Delay cpu a n = op.Delay (record { 0 = a }) n
-op_of op_tag.Mod cpu a n = op.Mod (record { 0 = a }) n
-op_of op_tag.Cancel cpu a n = op.Cancel (record { 0 = a })
-
-abbrev pub read_op_tag : ℕ → Reader OpTag
-read_op_tag version = field errors.BadField 1 (λ bytes. op_tagged version (from_be_bytes w8 bytes))
-
-unfoldable pub read_op : ℕ → Reader Op
-read_op version = do
-  tag ← read_op_tag version
-  cpu ← read_number w8 0 (op_room tag).cpu
-  a ← read_number w16 0 (op_room tag).a
-  n ← read_number w32 0 (op_room tag).n
-  done (op_of tag cpu a n)
-
--- the first of these words that has the tag
-abbrev pub first_tagged : List Mnemonic → ℕ → Option Mnemonic
-first_tagged [] n = None
-first_tagged (first ∷ others) n = if n == tag_of first then Some first else first_tagged others n
-
--- the word with this tag, if the version has it
-abbrev pub tagged : (version n : ℕ) → Option Mnemonic
-tagged version n = if nat_le n (last_tag version) then first_tagged mnemonics n else None
-
--- behind a word of this shape; a queue's number has one byte in a scenario
+-- of a word with this shape; a queue's number has one byte in a scenario
 abbrev pub shape_room : Shape → FieldRoom
 shape_room shape.Alone = room 0 0 0
+shape_room shape.Ticks = room 0 0 4294967295
 shape_room shape.Work = room 0 65535 0
 shape_room shape.WorkCpu = room 255 65535 0
+shape_room shape.WorkTicks = room 0 65535 4294967295
 shape_room shape.WorkCpuTicks = room 255 65535 4294967295
 shape_room shape.Queue = room 0 255 0
 shape_room shape.QueueNumber = room 0 255 4294967295
 shape_room shape.Pool = room 255 0 0
 shape_room shape.Flush = room 0 65535 0
 shape_room shape.Time = room 0 0 4294967295
+
+-- the first of these words that has the tag
+abbrev pub first_with : {W : Type 0} → (W → ℕ) → List W → ℕ → Option W
+first_with tag [] n = None
+first_with tag (first ∷ others) n = if n == tag first then Some first else first_with tag others n
+
+-- the word of an operation with this tag, if the version has it
+abbrev pub op_tagged : (version n : ℕ) → Option OpWord
+op_tagged version n = if nat_le n (last_op_tag version) then first_with op_tag op_words n else None
+
+abbrev pub op_room : OpWord → FieldRoom
+op_room word = shape_room (op_shape_of word)
+
+abbrev pub read_op_tag : ℕ → Reader OpWord
+read_op_tag version = field errors.BadField 1 (λ bytes. op_tagged version (from_be_bytes w8 bytes))
+
+unfoldable pub read_op : ℕ → Reader Op
+read_op version = do
+  word ← read_op_tag version
+  cpu ← read_number w8 0 (op_room word).cpu
+  a ← read_number w16 0 (op_room word).a
+  n ← read_number w32 0 (op_room word).n
+  done (op_with word (fields cpu a n))
+
+-- the word of an instruction with this tag, if the version has it
+abbrev pub tagged : (version n : ℕ) → Option Mnemonic
+tagged version n = if nat_le n (last_tag version) then first_with tag_of mnemonics n else None
 
 abbrev pub instr_room : Mnemonic → FieldRoom
 instr_room mnemonic = shape_room (shape_of mnemonic)

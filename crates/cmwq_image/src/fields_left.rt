@@ -6,9 +6,9 @@ ghost use Rattle.std.specs.Prelude.{◌≡◌, ◌+◌, ◌≤◌, ◌==◌, IfO
 ghost use Rattle.cmwq_image.specs.declared.error.ImageError.TheVariants as errors;
 
 use crate::error::ImageError;
-use crate::tags::{OpTag, op_tagged, tagged};
+use crate::tags::{op_tagged, tagged};
 use crate::version::{FIRST_VERSION, VERSION};
-use cmwq_types::{MAX_NAME, Mnemonic, Name};
+use cmwq_types::{MAX_NAME, Mnemonic, Name, OpWord};
 use std::marker::Model;
 
 /// What is left of the bytes of an image.
@@ -135,7 +135,7 @@ impl<'a> FieldsLeft<'a> {
     }
 
     /// The tag of an operation, one that the version has.
-    pub(crate) fn op_tag(&mut self, version: u16) -> Result<OpTag, ImageError>
+    pub(crate) fn op_tag(&mut self, version: u16) -> Result<OpWord, ImageError>
         requires { self.old.at + 1 ≤ u32.MAX }
         ensures read { GivesRead (λ tag. (tag, self.new)) result (read_op_tag version self.old) }
         ensures ahead { OnOk result (self.new.at ≡ self.old.at + 1) }

@@ -7,10 +7,10 @@ ghost use Rattle.std.specs.Prelude.{◌≡◌, ◌+◌, ◌*◌, ◌≤◌, ◌<
 use crate::error::ImageError;
 use crate::fields_left::FieldsLeft;
 use crate::head::Head;
-use crate::tags::instr_room;
+use crate::tags::{instr_room, op_room};
 use crate::version::SECOND_VERSION;
 use cmwq_types::{
-    Actor, Flags, Instr, Line, MAX_ACTORS, MAX_LINES, MAX_OPS, MAX_QUEUES, MAX_WORKS, Op,
+    Actor, Fields, Flags, Instr, Line, MAX_ACTORS, MAX_LINES, MAX_OPS, MAX_QUEUES, MAX_WORKS, Op,
     QueueDecl, QueueId, WorkDecl, instr_of,
 };
 use std::alloc::Global;
@@ -126,12 +126,12 @@ impl<'a> FieldsLeft<'a> {
         ensures read { GivesRead (λ op. (op, self.new)) result (read_op version self.old) }
         ensures ahead { OnOk result (self.new.at ≡ self.old.at + 8) }
     {
-        let tag = self.op_tag(version)?;
-        let room = tag.room();
+        let word = self.op_tag(version)?;
+        let room = op_room(word);
         let cpu = self.byte(0, room.cpu)?;
         let a = self.short(0, room.a)?;
         let n = self.long(0, room.n)?;
-        Ok(tag.with(cpu, a, n))
+        Ok(word.with(Fields::new(cpu, a, n)))
     }
 
     /// So many actors, with instructions of the version.

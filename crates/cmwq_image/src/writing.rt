@@ -10,7 +10,7 @@ ghost use Rattle.std.specs.Int.{w8, w16, w32};
 ghost use Rattle.std.specs.List.{All, flat_map};
 ghost use Rattle.std.specs.Prelude.{◌≡◌, ◌∷◌, ◌++◌, ◌≤◌, ◌<◌, ◌^◌, [], IfOk, IsTrue, OnOk, length};
 
-use crate::tags::{OpTag, tag_of};
+use crate::tags::{op_tag, tag_of};
 use crate::version::VERSION;
 use crate::word::Word;
 use cmwq_types::{
@@ -237,15 +237,8 @@ fn op_word(op: Op) -> Word
     ensures image { result ≡ op_word op }
     ensures op { IsOp op }
 {
-    match op {
-        Op::Burn(ticks) => Word::new(OpTag::Burn as u8, 0, 0, ticks),
-        Op::Sleep(ticks) => Word::new(OpTag::Sleep as u8, 0, 0, ticks),
-        Op::Queue(work, cpu) => Word::new(OpTag::Queue as u8, cpu, work.0, 0),
-        Op::Finish => Word::new(OpTag::Finish as u8, 0, 0, 0),
-        Op::Delay(work, ticks) => Word::new(OpTag::Delay as u8, 0, work.0, ticks),
-        Op::Mod(work, ticks) => Word::new(OpTag::Mod as u8, 0, work.0, ticks),
-        Op::Cancel(work) => Word::new(OpTag::Cancel as u8, 0, work.0, 0),
-    }
+    let Fields { cpu, id, number } = op.fields();
+    Word::new(op_tag(op.word()), cpu, id, number)
 }
 
 /// The word of an instruction.

@@ -46,8 +46,10 @@ impl fmt::Display for Operands<'_> {
         let Fields { cpu, id, number } = self.fields;
         match self.shape {
             Shape::Alone => f.write_str(""),
+            Shape::Ticks | Shape::Time => write!(f, " {number}"),
             Shape::Work => write!(f, " {}", scenario.work_name(id as usize)),
             Shape::WorkCpu => write!(f, " {} {cpu}", scenario.work_name(id as usize)),
+            Shape::WorkTicks => write!(f, " {} {number}", scenario.work_name(id as usize)),
             Shape::WorkCpuTicks => {
                 write!(f, " {} {cpu} {number}", scenario.work_name(id as usize))
             }
@@ -55,7 +57,6 @@ impl fmt::Display for Operands<'_> {
             Shape::QueueNumber => write!(f, " {} {number}", scenario.queue_name(id as usize)),
             Shape::Pool => write!(f, " {cpu}"),
             Shape::Flush => write!(f, " {id}"),
-            Shape::Time => write!(f, " {number}"),
         }
     }
 }

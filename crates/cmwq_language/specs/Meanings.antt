@@ -9,8 +9,10 @@ use Rattle.cmwq_language.specs.declared.meanings.QueueFlag.TheVariants as flag
 
 abbrev pub operand_names : Shape → List ℕ
 operand_names shape.Alone = codes ""
+operand_names shape.Ticks = codes " N"
 operand_names shape.Work = codes " WORK"
 operand_names shape.WorkCpu = codes " WORK CPU"
+operand_names shape.WorkTicks = codes " WORK N"
 operand_names shape.WorkCpuTicks = codes " WORK CPU N"
 operand_names shape.Queue = codes " QUEUE"
 operand_names shape.QueueNumber = codes " QUEUE N"

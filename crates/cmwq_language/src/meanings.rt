@@ -64,8 +64,10 @@ pub fn operand_names(shape: Shape) -> &'static str
 {
     match shape {
         Shape::Alone => "",
+        Shape::Ticks => " N",
         Shape::Work => " WORK",
         Shape::WorkCpu => " WORK CPU",
+        Shape::WorkTicks => " WORK N",
         Shape::WorkCpuTicks => " WORK CPU N",
         Shape::Queue => " QUEUE",
         Shape::QueueNumber => " QUEUE N",

@@ -174,36 +174,9 @@ fn put_op(text: &mut LineEnd, scenario: &Scenario, op: Op)
     ensures text { text.new ≡ written_text (op_line scenario.now op) }
     ensures op { IsOp op }
 {
-    match op {
-        Op::Burn(ticks) => {
-            text.put_number(ticks);
-            text.put(b"burn");
-        }
-        Op::Sleep(ticks) => {
-            text.put_number(ticks);
-            text.put(b"sleep");
-        }
-        Op::Queue(work, cpu) => {
-            text.put_number(u32::from(cpu));
-            text.put_word(scenario.work_name_bytes(work.0 as usize));
-            text.put(b"queue");
-        }
-        Op::Finish => text.put(b"finish"),
-        Op::Delay(work, ticks) => {
-            text.put_number(ticks);
-            text.put_word(scenario.work_name_bytes(work.0 as usize));
-            text.put(b"delay");
-        }
-        Op::Mod(work, ticks) => {
-            text.put_number(ticks);
-            text.put_word(scenario.work_name_bytes(work.0 as usize));
-            text.put(b"mod");
-        }
-        Op::Cancel(work) => {
-            text.put_word(scenario.work_name_bytes(work.0 as usize));
-            text.put(b"cancel");
-        }
-    }
+    let word = op.word();
+    put_operands(text, scenario, word.shape(), op.fields());
+    text.put(word.as_bytes());
 }
 
 fn push_actors(text: &mut Vec<u8>, scenario: &Scenario) -> Result<(), NoMemory>
@@ -258,7 +231,12 @@ fn put_operands(text: &mut LineEnd, scenario: &Scenario, shape: Shape, fields: F
     let Fields { cpu, id, number } = fields;
     match shape {
         Shape::Alone => {}
+        Shape::Ticks | Shape::Time => text.put_number(number),
         Shape::Work => text.put_word(scenario.work_name_bytes(id as usize)),
+        Shape::WorkTicks => {
+            text.put_number(number);
+            text.put_word(scenario.work_name_bytes(id as usize));
+        }
         Shape::WorkCpu => {
             text.put_number(u32::from(cpu));
             text.put_word(scenario.work_name_bytes(id as usize));
@@ -275,7 +253,6 @@ fn put_operands(text: &mut LineEnd, scenario: &Scenario, shape: Shape, fields: F
         }
         Shape::Pool => text.put_number(u32::from(cpu)),
         Shape::Flush => text.put_number(u32::from(id)),
-        Shape::Time => text.put_number(number),
     }
 }
 

@@ -118,8 +118,10 @@ module _ (S : ScenarioContents) (queue max : ℕ) where
 
   declared-same : (form : Shape) (id : ℕ) → is_declared T form id ≡ is_declared S form id
   declared-same shape.Alone id = refl
+  declared-same shape.Ticks id = refl
   declared-same shape.Work id = refl
   declared-same shape.WorkCpu id = refl
+  declared-same shape.WorkTicks id = refl
   declared-same shape.WorkCpuTicks id = refl
   declared-same shape.Queue id = ap (ltb id) as-many
   declared-same shape.QueueNumber id = ap (ltb id) as-many

@@ -143,8 +143,10 @@ module _ (S : ScenarioContents) (scenario : IsScenario S) where
 
   operands-are-words : (s : Shape) (f : Fields) → AreWords (operand_words S s f)
   operands-are-words shape.Alone f = tt
+  operands-are-words shape.Ticks f = (number f.number, tt)
   operands-are-words shape.Work f = (work (work_id f.id), tt)
   operands-are-words shape.WorkCpu f = (work (work_id f.id), (number f.cpu, tt))
+  operands-are-words shape.WorkTicks f = (work (work_id f.id), (number f.number, tt))
   operands-are-words shape.WorkCpuTicks f = (work (work_id f.id), (number f.cpu, (number f.number, tt)))
   operands-are-words shape.Queue f = (queue (queue_id f.id), tt)
   operands-are-words shape.QueueNumber f = (queue (queue_id f.id), (number f.number, tt))

@@ -193,8 +193,8 @@ fn has_named(mnemonic: Mnemonic, works: bool, queues: bool) -> bool
     ensures { result ≡ has_named works queues (operands_of mnemonic) }
 {
     match shape_of(mnemonic) {
-        Shape::Work | Shape::WorkCpu | Shape::WorkCpuTicks => works,
+        Shape::Work | Shape::WorkCpu | Shape::WorkTicks | Shape::WorkCpuTicks => works,
         Shape::Queue | Shape::QueueNumber => queues,
-        Shape::Alone | Shape::Pool | Shape::Flush | Shape::Time => true,
+        Shape::Alone | Shape::Ticks | Shape::Pool | Shape::Flush | Shape::Time => true,
     }
 }
