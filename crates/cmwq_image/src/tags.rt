@@ -9,7 +9,7 @@ use crate::word::FieldRoom;
 use cmwq_types::{Mnemonic, Op, Shape, WorkId, shape_of};
 
 /// The tag of an operation.
-#[derive(Clone, Copy, Debug)]
+#[derive(Clone, Copy)]
 pub(crate) enum OpTag {
     Burn = 1,
     Sleep = 2,

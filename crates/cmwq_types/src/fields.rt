@@ -7,7 +7,7 @@ use crate::instr::{Instr, QueueId, WorkId};
 use crate::mnemonic::Mnemonic;
 
 /// What stands behind an instruction's word.
-#[derive(Clone, Copy, Debug, PartialEq, Eq)]
+#[derive(Clone, Copy, PartialEq, Eq)]
 pub enum Shape {
     /// Nothing.
     Alone,
@@ -30,7 +30,7 @@ pub enum Shape {
 }
 
 /// The operands of an instruction: each field that its shape doesn't have is 0.
-#[derive(Clone, Copy, Debug, PartialEq, Eq)]
+#[derive(Clone, Copy, PartialEq, Eq)]
 pub struct Fields {
     /// A CPU or a pool.
     pub cpu: u8,
