@@ -191,7 +191,10 @@ fn show_timer<R: Print>(rt: &R, timer: Option<Timer>) -> Result<(), PlayError> {
             },
         ) => {
             let work = work.0;
-            say(rt, format_args!("work {work} cpu {cpu} due {due} stamp {stamp}"))
+            say(
+                rt,
+                format_args!("work {work} cpu {cpu} due {due} stamp {stamp}"),
+            )
         }
         None => say(rt, "none"),
     }

@@ -11,32 +11,60 @@ pub(crate) fn show_machine<M: Machine, R: Print>(rt: &R, machine: &M) -> Result<
     show_view(rt, &view)
 }
 
-/// Prints each part of a view, one line per work, idle worker and flush.
+/// Prints each part of a view, with lines of its own for each work item, idle worker and flush.
 pub(crate) fn show_view<R: Print>(rt: &R, view: &View) -> Result<(), PlayError> {
-    show_counts(rt, view)?;
-    for (work, pending) in &view.pending {
+    let View {
+        time,
+        next,
+        spent,
+        frozen,
+        pressed,
+        max,
+        pending,
+        running,
+        depth,
+        idle,
+        made,
+        flushes,
+    } = view;
+    say(rt, format_args!("time {time} next {next} spent {spent}"))?;
+    say(rt, format_args!("frozen {frozen} pressed {pressed}"))?;
+    say(
+        rt,
+        format_args!("max {max:?} depth {depth:?} made {made:?}"),
+    )?;
+    show_works(rt, pending, running)?;
+    show_waits(rt, idle, flushes)
+}
+
+/// Prints the pending and the running work items.
+fn show_works<R: Print>(
+    rt: &R,
+    pending: &[(WorkId, Pending)],
+    running: &[(WorkId, Running)],
+) -> Result<(), PlayError> {
+    for (work, pending) in pending {
         show_pending(rt, *work, *pending)?;
     }
-    for (work, running) in &view.running {
+    for (work, running) in running {
         show_running(rt, *work, *running)?;
-    }
-    for idle in &view.idle {
-        show_idle(rt, *idle)?;
-    }
-    for target in &view.flushes {
-        show_flush(rt, *target)?;
     }
     Ok(())
 }
 
-/// Prints a view's counters, and its numbers by queue, by work and by pool.
-fn show_counts<R: Print>(rt: &R, view: &View) -> Result<(), PlayError> {
-    let (time, next, spent) = (view.time, view.next, view.spent);
-    let (frozen, pressed) = (view.frozen, view.pressed);
-    say(rt, format_args!("time {time} next {next} spent {spent}"))?;
-    say(rt, format_args!("frozen {frozen} pressed {pressed}"))?;
-    let (max, depth, made) = (&view.max, &view.depth, &view.made);
-    say(rt, format_args!("max {max:?} depth {depth:?} made {made:?}"))
+/// Prints the idle workers, and what the flushes wait for.
+fn show_waits<R: Print>(
+    rt: &R,
+    idle: &[IdleWorker],
+    flushes: &[FlushTarget],
+) -> Result<(), PlayError> {
+    for worker in idle {
+        show_idle(rt, *worker)?;
+    }
+    for target in flushes {
+        show_flush(rt, *target)?;
+    }
+    Ok(())
 }
 
 /// Prints a pending work item.
