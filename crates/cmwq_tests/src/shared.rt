@@ -134,7 +134,7 @@ fn not_yet_issued<M: Machine>(
                 drawn,
                 ticket,
                 served,
-                ..
+                call: _,
             },
         ) => {
             same(rt, "no turn yet", (ticket, served), want);
