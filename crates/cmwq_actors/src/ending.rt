@@ -6,7 +6,7 @@ ghost use Rattle.cmwq_actors.specs.Ending.{is_exhausted, is_full, stopped_by};
 use cmwq_engine::IssueError;
 
 /// How an actor ended, or all of them.
-#[derive(Clone, Copy, Debug, PartialEq, Eq)]
+#[derive(Clone, Copy, PartialEq, Eq)]
 pub enum Ending {
     /// All its instructions were issued.
     Done,

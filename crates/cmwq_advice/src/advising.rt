@@ -13,7 +13,7 @@ use cmwq_verdict::{Look, explained_verdict};
 use std::alloc::Global;
 
 /// What was found out about the files of a request, once its command had ended with a fault.
-#[derive(Clone, Copy, Debug)]
+#[derive(Clone, Copy)]
 pub struct Found<'a> {
     /// Why the file in question can't be read or made, where it can't.
     pub trouble: Option<Trouble>,

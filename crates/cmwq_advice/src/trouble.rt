@@ -6,7 +6,7 @@ use cmwq_types::NoMemory;
 use std::alloc::Global;
 
 /// Why a file can't be read or made, as far as the system tells.
-#[derive(Clone, Copy, Debug, PartialEq, Eq)]
+#[derive(Clone, Copy, PartialEq, Eq)]
 pub enum Trouble {
     /// No file has the path.
     NoFile,

@@ -30,7 +30,7 @@ impl From<NoMemory> for AsmError {
 }
 
 /// Why a line can't be taken.
-#[derive(Clone, Copy, Debug, PartialEq, Eq)]
+#[derive(Clone, Copy, PartialEq, Eq)]
 pub(crate) enum LineError {
     /// The reason that the grammar has against it.
     Why(Why),

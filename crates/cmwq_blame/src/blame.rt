@@ -7,7 +7,7 @@ use std::alloc::Global;
 use std::marker::Model;
 
 /// For how many ticks each work of a run waited for each other one, and for nobody.
-#[derive(Debug, Drop)]
+#[derive(Drop)]
 pub struct Blame {
     works: usize,
     /// Of each work a row: the count for nobody, and behind it those for the works by number.

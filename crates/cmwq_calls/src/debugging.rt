@@ -135,7 +135,11 @@ fn obey<M: Machine>(
 fn show_said<R: Print>(rt: &R, said: Result<Said, DebugError>) -> Result<(), PlayError> {
     match said {
         Ok(Said::Text(text)) => show_bytes(rt, &text),
-        Ok(said) => say(rt, format_args!("{said:?}")),
+        Ok(Said::At { position, now, by }) => {
+            say(rt, format_args!("at {position} time {now} by {by:?}"))
+        }
+        Ok(Said::Broke(number)) => say(rt, format_args!("break {number}")),
+        Ok(Said::Cleared(number)) => say(rt, format_args!("cleared {number}")),
         Err(refused) => say(rt, format_args!("refused {refused}")),
     }
 }

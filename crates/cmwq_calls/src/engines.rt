@@ -1,9 +1,10 @@
 //! Engines: opened, alone and behind a lock. Each that is opened then takes all instructions of its scenario's actor.
 
+use crate::entries;
 use crate::instructions::{actor_instrs, count_of};
-use crate::showing::{say, show_machine};
 use crate::timing::{issue_timed, opened};
 use crate::trying::{Tried, try_call};
+use crate::views::show_machine;
 use cmwq_asm::assemble;
 use cmwq_engine::{Engine, Shared};
 use cmwq_lock::TicketLock;
@@ -54,7 +55,7 @@ impl<M: Machine> Tried for Opening<'_, M> {
         alloc: Global,
         mut answer: Engine<M>,
     ) -> Result<(), PlayError> {
-        show_engine(rt, alloc, &mut answer, self.instrs)
+        show_engine(rt, alloc, &mut answer, self.scenario, self.instrs)
     }
 }
 
@@ -63,13 +64,12 @@ fn show_engine<M: Machine, R: Print>(
     rt: &R,
     alloc: Global,
     engine: &mut Engine<M>,
+    scenario: &Scenario,
     instrs: &[Instr],
 ) -> Result<(), PlayError> {
     show_machine(rt, engine.machine())?;
-    let _times = issue_timed(alloc, engine, instrs)?;
-    for entry in engine.history() {
-        say(rt, format_args!("{entry:?}"))?;
-    }
+    let times = issue_timed(alloc, engine, instrs)?;
+    entries::print(rt, scenario, engine.history(), &times)?;
     show_machine(rt, engine.machine())
 }
 

@@ -1,7 +1,8 @@
 //! The calls of machines, of either body: once all instructions of a scenario's actor have been carried out.
 
-use crate::showing::{say, show_bytes, show_machine};
+use crate::showing::show_bytes;
 use crate::trying::{Tried, try_call};
+use crate::views::{show_machine, show_view};
 use cmwq_asm::assemble;
 use cmwq_dump::dump_text;
 use cmwq_play::PlayError;
@@ -64,7 +65,7 @@ impl<M: Machine> Tried for OnMachine<'_, M> {
                 carry_out(&mut machine, self.scenario);
                 show_machine(rt, &machine)
             }
-            Answer::View(view) => say(rt, format_args!("{view:?}")),
+            Answer::View(view) => show_view(rt, &view),
             Answer::Text(text) => show_bytes(rt, &text),
         }
     }

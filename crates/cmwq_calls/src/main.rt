@@ -27,6 +27,7 @@ mod streams;
 mod texts;
 mod timing;
 mod trying;
+mod views;
 
 use bodies::{BodyCall, try_body};
 use call_name::{CallName, call_of};

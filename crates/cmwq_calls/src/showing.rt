@@ -1,8 +1,9 @@
-//! What is printed of scenarios, machines and bytes.
+//! Prints scenarios, lines and bytes.
 
+use cmwq_list::list;
 use cmwq_play::PlayError;
-use cmwq_table::Machine;
 use cmwq_types::Scenario;
+use std::alloc::Global;
 use std::fmt::Display;
 use std::io;
 use std::io::Write;
@@ -12,15 +13,14 @@ pub(crate) fn say<R: Print, D: Display + Drop>(rt: &R, line: D) -> Result<(), Pl
     rt.println(line).map_err(|_failed| PlayError::Write)
 }
 
-/// Prints all of a scenario.
-pub(crate) fn show_scenario<R: Print>(rt: &R, scenario: &Scenario) -> Result<(), PlayError> {
-    println!(rt; "{scenario:?}").map_err(|_failed| PlayError::Write)
-}
-
-/// Prints a machine's whole state.
-pub(crate) fn show_machine<M: Machine, R: Print>(rt: &R, machine: &M) -> Result<(), PlayError> {
-    let view = machine.look()?;
-    println!(rt; "{view:?}").map_err(|_failed| PlayError::Write)
+/// Prints a scenario by its listing, which takes memory.
+pub(crate) fn show_scenario<R: Print>(
+    rt: &R,
+    alloc: Global,
+    scenario: &Scenario,
+) -> Result<(), PlayError> {
+    let text = list(alloc, scenario)?;
+    show_bytes(rt, &text)
 }
 
 /// Prints bytes as they are.

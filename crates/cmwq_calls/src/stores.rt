@@ -79,8 +79,10 @@ impl SomeLists {
             let Some(node) = left else {
                 return Ok(());
             };
-            say(rt, format_args!("list {list}: {node:?}"))?;
-            let key = usize::from(node.work.0);
+            let Node { order, work } = node;
+            let work = work.0;
+            say(rt, format_args!("list {list}: work {work} order {order}"))?;
+            let key = usize::from(work);
             left = if lists.contains(key) {
                 lists.next(key)
             } else {
@@ -169,10 +171,32 @@ impl Store for SomeTimers {
 
     fn show<R: Print>(&self, rt: &R) -> Result<(), PlayError> {
         for work in 0..WORKS {
-            let timer = self.timers.get(WorkId(work));
-            say(rt, format_args!("timer of {work}: {timer:?}"))?;
+            say(rt, format_args!("timer of {work}"))?;
+            show_timer(rt, self.timers.get(WorkId(work)))?;
         }
-        say(rt, format_args!("the first: {:?}", self.timers.least()))
+        say(rt, "the first")?;
+        show_timer(rt, self.timers.least())
+    }
+}
+
+/// Prints a timer, or that there is none.
+fn show_timer<R: Print>(rt: &R, timer: Option<Timer>) -> Result<(), PlayError> {
+    match timer {
+        Some(
+            Timer {
+                due,
+                stamp,
+                work,
+                cpu,
+            },
+        ) => {
+            let work = work.0;
+            say(
+                rt,
+                format_args!("work {work} cpu {cpu} due {due} stamp {stamp}"),
+            )
+        }
+        None => say(rt, "none"),
     }
 }
 

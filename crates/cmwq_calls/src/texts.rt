@@ -35,13 +35,14 @@ struct OnText<'t> {
     scenario: Scenario,
     image: Vec<u8>,
     call: TextCall,
+    alloc: Global,
 }
 
 impl Tried for OnText<'_> {
     type Answer = Answer;
 
     fn show_held<R: Print>(&mut self, rt: &R) -> Result<(), PlayError> {
-        show_scenario(rt, &self.scenario)
+        show_scenario(rt, self.alloc, &self.scenario)
     }
 
     fn call(&mut self, alloc: Global) -> Result<Answer, PlayError> {
@@ -61,11 +62,11 @@ impl Tried for OnText<'_> {
     fn show_answer<R: Print>(
         &mut self,
         rt: &R,
-        _alloc: Global,
+        alloc: Global,
         answer: Answer,
     ) -> Result<(), PlayError> {
         match answer {
-            Answer::Scenario(scenario) => show_scenario(rt, &scenario),
+            Answer::Scenario(scenario) => show_scenario(rt, alloc, &scenario),
             Answer::Bytes(bytes) => show_bytes(rt, &bytes),
         }
     }
@@ -93,6 +94,7 @@ pub(crate) fn try_text<R: Print>(
         scenario,
         image,
         call,
+        alloc,
     };
     try_call(rt, alloc, &mut tried)
 }

@@ -37,7 +37,7 @@ use std::thread::Threads;
 use std::time::Clock;
 
 /// What `main` knows of the program that runs.
-#[derive(Clone, Copy, Debug)]
+#[derive(Clone, Copy)]
 pub struct ProgramSetting<'a> {
     /// The logic that its proofs rest on, as `rt version` names it.
     pub logic: &'a str,

@@ -53,7 +53,7 @@ pub trait FileStore {
 }
 
 /// A file that was opened to be read, or what standard input had.
-#[derive(Debug, Drop)]
+#[derive(Drop)]
 pub enum Opened<'a, F> {
     /// The file.
     File(F),
@@ -75,7 +75,7 @@ impl<F: Read> Read for Opened<'_, F> {
 }
 
 /// The system's files, of which nothing is known, but for standard input, which stands as `-`.
-#[derive(Clone, Copy, Debug)]
+#[derive(Clone, Copy)]
 pub struct Disk<'a, R> {
     /// What gives access to them.
     pub rt: &'a R,

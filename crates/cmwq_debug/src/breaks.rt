@@ -11,7 +11,7 @@ use cmwq_types::{Event, Place, Reply, WorkId};
 pub const MAX_BREAKS: usize = 16;
 
 /// What a run stops at.
-#[derive(Clone, Copy, Debug)]
+#[derive(Clone, Copy)]
 pub(crate) enum Break {
     /// An event of the kind, of the work.
     OnWork(WorkId, EventKind),
@@ -24,7 +24,7 @@ pub(crate) enum Break {
 }
 
 /// What a break sees of a machine.
-#[derive(Clone, Copy, Debug)]
+#[derive(Clone, Copy)]
 pub(crate) struct Sight {
     /// The time.
     pub time: u64,

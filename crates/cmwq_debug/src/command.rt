@@ -4,7 +4,7 @@ use cmwq_types::{NoMemory, WorkId};
 use thiserror::Error;
 
 /// A command. The position is how many instructions of the list have been carried out.
-#[derive(Clone, Copy, Debug, PartialEq, Eq)]
+#[derive(Clone, Copy, PartialEq, Eq)]
 pub enum Command {
     /// Goes forward by so many instructions. Refused, as `PastEnd`, where the list hasn't so many more.
     Step(u32),
@@ -48,7 +48,7 @@ pub enum Command {
 }
 
 /// A kind of event. An event `FinishesAndStarts` is of two kinds.
-#[derive(Clone, Copy, Debug, PartialEq, Eq)]
+#[derive(Clone, Copy, PartialEq, Eq)]
 pub enum EventKind {
     /// A worker or a rescuer takes the work from the worklist, or starts its deferred instance.
     Starts,
@@ -75,7 +75,7 @@ pub enum EventKind {
 }
 
 /// What a debugger says to a command that it carried out.
-#[derive(Debug, Drop)]
+#[derive(Drop)]
 pub enum Said {
     /// It stands at the position, where the time in ticks is `now`. A run was stopped `by` this break.
     At {

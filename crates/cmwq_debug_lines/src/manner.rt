@@ -1,7 +1,7 @@
 //! How a debugging session is held.
 
 /// How a debugging session is held.
-#[derive(Clone, Copy, Debug, PartialEq, Eq)]
+#[derive(Clone, Copy, PartialEq, Eq)]
 pub enum Manner {
     /// Each command is answered, and nothing else is said: for scripts.
     Plain,

@@ -3,7 +3,7 @@
 use cmwq_debug::Command;
 
 /// What a command line tells the debugger.
-#[derive(Clone, Copy, Debug)]
+#[derive(Clone, Copy)]
 pub enum Order {
     /// Nothing: it has no words.
     Nothing,

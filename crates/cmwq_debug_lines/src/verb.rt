@@ -8,7 +8,7 @@ use cmwq_types::NoMemory;
 use std::alloc::Global;
 
 /// What the first word of a command tells. `spelling` of the specs is the table of them.
-#[derive(Clone, Copy, Debug)]
+#[derive(Clone, Copy)]
 pub enum Verb {
     Step,
     Back,

@@ -1,7 +1,7 @@
 //! What is asked of a drawing.
 
 /// What is drawn of a scenario, and how.
-#[derive(Clone, Copy, Debug, PartialEq, Eq)]
+#[derive(Clone, Copy, PartialEq, Eq)]
 pub struct Drawing<'a> {
     /// Whether the run goes on until the machine is quiet, as with `settled`.
     pub settle: bool,
@@ -16,7 +16,7 @@ pub struct Drawing<'a> {
 }
 
 /// Which ticks are drawn: those of the run from `from` on, before `to`.
-#[derive(Clone, Copy, Debug, PartialEq, Eq)]
+#[derive(Clone, Copy, PartialEq, Eq)]
 pub struct Span {
     /// The time of the first one, in ticks; the run's first where it isn't given.
     pub from: Option<u64>,
@@ -25,7 +25,7 @@ pub struct Span {
 }
 
 /// What a run is drawn as.
-#[derive(Clone, Copy, Debug, PartialEq, Eq)]
+#[derive(Clone, Copy, PartialEq, Eq)]
 pub enum Form<'a> {
     /// As text.
     Text,
@@ -34,7 +34,7 @@ pub enum Form<'a> {
 }
 
 /// How an SVG picture looks.
-#[derive(Clone, Copy, Debug, PartialEq, Eq)]
+#[derive(Clone, Copy, PartialEq, Eq)]
 pub struct Style<'a> {
     /// How wide a tick is, in pixels, from 1 to 100; 10 where it isn't given.
     pub scale: Option<u32>,

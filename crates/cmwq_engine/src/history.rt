@@ -13,7 +13,7 @@ pub struct Setting {
 }
 
 /// An instruction that was issued, and what it came to.
-#[derive(Clone, Copy, Debug, PartialEq, Eq)]
+#[derive(Clone, Copy, PartialEq, Eq)]
 pub struct Entry {
     /// The ticket under which it was issued. Tickets rise along a history.
     pub ticket: u64,

@@ -12,7 +12,7 @@ use cmwq_table::Machine;
 use cmwq_types::{Instr, Reply};
 
 /// What an instruction came to that was issued in a turn.
-#[derive(Clone, Copy, Debug, PartialEq, Eq)]
+#[derive(Clone, Copy, PartialEq, Eq)]
 pub struct Receipt {
     /// The ticket of the turn.
     pub ticket: u64,

@@ -9,7 +9,7 @@ use cmwq_table::{Pending, Reads, Running};
 use cmwq_types::{Event, Instr, Op, Place, Reply, Scenario};
 
 /// Who passes the tracepoints of an instruction, when, and for which CPU a work is asked.
-#[derive(Clone, Copy, Debug, PartialEq, Eq)]
+#[derive(Clone, Copy, PartialEq, Eq)]
 pub struct Doer {
     /// When, in ticks.
     pub time: u64,

@@ -4,7 +4,7 @@ use crate::kernel_task::KernelTask;
 use cmwq_types::WorkId;
 
 /// An event of a kernel's workqueues.
-#[derive(Clone, Copy, Debug, PartialEq, Eq)]
+#[derive(Clone, Copy, PartialEq, Eq)]
 pub struct KernelEvent {
     /// When, in ticks.
     pub time: u64,
@@ -17,7 +17,7 @@ pub struct KernelEvent {
 }
 
 /// A kernel's tracepoint in its workqueues, `workqueue:workqueue_..`.
-#[derive(Clone, Copy, Debug, PartialEq, Eq)]
+#[derive(Clone, Copy, PartialEq, Eq)]
 pub enum Tracepoint {
     /// `queue_work`: the work is queued on the queue of this pool; it was asked for on this CPU.
     QueueWork { cpu: u8, pool: u8 },

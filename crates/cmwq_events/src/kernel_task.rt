@@ -8,7 +8,7 @@ use cmwq_types::{MAX_WORKERS, QueueId, RESCUER, Scenario};
 use std::fmt;
 
 /// A task of a kernel.
-#[derive(Clone, Copy, Debug, PartialEq, Eq)]
+#[derive(Clone, Copy, PartialEq, Eq)]
 pub enum KernelTask {
     /// The worker of this number of the pool.
     Worker { pool: u8, worker: u8 },

@@ -34,7 +34,7 @@ pub(crate) struct Looker<'s, P> {
 }
 
 /// Where a run ended that was told.
-#[derive(Clone, Copy, Debug, PartialEq, Eq)]
+#[derive(Clone, Copy, PartialEq, Eq)]
 pub(crate) struct RunEnd {
     /// How many instructions were carried out.
     pub(crate) position: u64,

@@ -7,7 +7,7 @@ pub const MAX_STATES: u32 = 1_000_000;
 pub const USUAL_STATES: u32 = 100_000;
 
 /// What is asked of all orders of a scenario's actors.
-#[derive(Debug, PartialEq, Eq, Drop)]
+#[derive(PartialEq, Eq, Drop)]
 pub struct Exploration<'a> {
     /// What no order may come to.
     pub never: Never<'a>,
@@ -18,7 +18,7 @@ pub struct Exploration<'a> {
 }
 
 /// What no order may come to.
-#[derive(Clone, Copy, Debug, PartialEq, Eq)]
+#[derive(Clone, Copy, PartialEq, Eq)]
 pub enum Never<'a> {
     /// The actor has ended, and the work is pending or runs.
     After {
@@ -36,7 +36,7 @@ pub enum Never<'a> {
 }
 
 /// One actor begins only when another one has ended.
-#[derive(Clone, Copy, Debug, PartialEq, Eq)]
+#[derive(Clone, Copy, PartialEq, Eq)]
 pub struct Precedence<'a> {
     /// Who has to end.
     pub first: &'a str,

@@ -18,7 +18,7 @@ use cmwq_table::Machine;
 use cmwq_types::{Instr, MAX_LINES, NoMemory};
 
 /// What is asked of all orders, and from where a search goes on.
-#[derive(Clone, Copy, Debug)]
+#[derive(Clone, Copy)]
 pub(crate) struct Asked {
     /// The kind of state that is looked for.
     pub(crate) question: Question,
@@ -31,7 +31,7 @@ pub(crate) struct Asked {
 }
 
 /// What trying a choice came to.
-#[derive(Clone, Copy, Debug)]
+#[derive(Clone, Copy)]
 pub(crate) enum Tried {
     /// The search goes on.
     Going,

@@ -19,7 +19,7 @@ use std::alloc::Global;
 use std::sync::Arc;
 
 /// How many states there are, and in how many of them what is counted holds.
-#[derive(Clone, Copy, Debug, PartialEq, Eq)]
+#[derive(Clone, Copy, PartialEq, Eq)]
 pub struct Tally {
     /// All states.
     pub states: usize,
@@ -48,7 +48,7 @@ pub enum Answer {
 }
 
 /// What a search came to.
-#[derive(Clone, Copy, Debug)]
+#[derive(Clone, Copy)]
 pub(crate) enum Ending {
     /// No choice leads out of what was seen.
     Closed,

@@ -7,7 +7,7 @@ pub trait Progress {
 }
 
 /// It does nothing with it.
-#[derive(Clone, Copy, Debug)]
+#[derive(Clone, Copy)]
 pub struct Silent;
 
 impl Progress for Silent {

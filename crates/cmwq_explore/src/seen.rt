@@ -12,7 +12,7 @@ use std::alloc::Global;
 use std::marker::Model;
 
 /// What is noted of a state that was seen.
-#[derive(Clone, Copy, Debug)]
+#[derive(Clone, Copy)]
 pub(crate) struct Mark {
     /// The place of the state that it came from. The start's is 0.
     pub(crate) from: u32,
@@ -31,7 +31,7 @@ pub(crate) struct Mark {
 }
 
 /// What is counted of what was noted.
-#[derive(Clone, Copy, Debug)]
+#[derive(Clone, Copy)]
 pub(crate) enum Counted {
     /// Those that count for the first number of an answer.
     First,

@@ -1,7 +1,7 @@
 //! What exploring comes to.
 
 /// What exploring all orders of a scenario's actors comes to.
-#[derive(Clone, Copy, Debug, PartialEq, Eq)]
+#[derive(Clone, Copy, PartialEq, Eq)]
 pub enum Outcome {
     /// No order comes to what is never to be.
     Holds,

@@ -10,7 +10,7 @@ use cmwq_types::NoMemory;
 use std::alloc::Global;
 
 /// The fault of a text: its line, counted from 1, and why it is one.
-#[derive(Clone, Copy, Debug)]
+#[derive(Clone, Copy)]
 pub struct TextFault {
     pub line: u32,
     pub why: Why,

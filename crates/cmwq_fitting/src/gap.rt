@@ -10,7 +10,7 @@ use cmwq_types::{Fault, NoMemory};
 use std::alloc::Global;
 
 /// A place of a line at which a word may stand.
-#[derive(Clone, Copy, Debug)]
+#[derive(Clone, Copy)]
 pub struct Gap<'t> {
     /// The text up to it.
     pub(crate) front: &'t [u8],

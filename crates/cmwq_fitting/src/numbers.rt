@@ -7,7 +7,7 @@ use cmwq_types::NoMemory;
 use std::alloc::Global;
 
 /// The least and the greatest number that may stand at a place.
-#[derive(Clone, Copy, Debug, PartialEq, Eq)]
+#[derive(Clone, Copy, PartialEq, Eq)]
 pub struct Limits {
     pub low: u64,
     pub high: u64,

@@ -13,7 +13,7 @@ use cmwq_types::NoMemory;
 use std::alloc::Global;
 
 /// What may stand at a place of a line.
-#[derive(Debug, Drop)]
+#[derive(Drop)]
 pub struct Offer<'t> {
     /// Words of the language, and names that lines before declare.
     pub words: Vec<&'t [u8]>,

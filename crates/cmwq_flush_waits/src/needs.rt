@@ -5,7 +5,7 @@ ghost use Rattle.std.specs.Prelude.{◌≡◌, ◌++◌, OnOk, string_bytes};
 use cmwq_types::NoMemory;
 
 /// What has to come from outside before a wait can end.
-#[derive(Clone, Copy, Debug, PartialEq, Eq)]
+#[derive(Clone, Copy, PartialEq, Eq)]
 pub(crate) struct Needs {
     /// A thaw.
     pub(crate) thaw: bool,

@@ -2,7 +2,7 @@
 
 /// What a further line may be behind the lines of a text that can still become a scenario's. The words that such a line begins with
 /// stand in `words_of_next` of the specs.
-#[derive(Clone, Copy, Debug, PartialEq, Eq)]
+#[derive(Clone, Copy, PartialEq, Eq)]
 pub enum Next {
     /// The first of the four numbers at the head.
     Cpus,

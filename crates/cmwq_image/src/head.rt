@@ -1,7 +1,7 @@
 //! The numbers that an image begins with.
 
 /// The numbers of a scenario, and how many queues, works and actors it has.
-#[derive(Clone, Copy, Debug)]
+#[derive(Clone, Copy)]
 pub(crate) struct Head {
     pub(crate) cpus: u8,
     pub(crate) workers: u8,

@@ -4,7 +4,7 @@ ghost use Rattle.cmwq_image.specs.ImageFault.{room};
 ghost use Rattle.std.specs.Prelude.{◌≡◌};
 
 /// The fields of a word. What its tag doesn't use is 0.
-#[derive(Clone, Copy, Debug)]
+#[derive(Clone, Copy)]
 pub(crate) struct Word {
     pub(crate) tag: u8,
     pub(crate) cpu: u8,
@@ -21,7 +21,7 @@ impl Word {
 }
 
 /// The greatest value that each field of a word can have behind its tag: 0 where the tag doesn't use it.
-#[derive(Clone, Copy, Debug)]
+#[derive(Clone, Copy)]
 pub(crate) struct FieldRoom {
     pub(crate) cpu: u8,
     pub(crate) a: u16,

@@ -10,7 +10,7 @@ use cmwq_types::{
 use itoa::Buffer;
 
 /// What is limited. `before` of the specs has the texts.
-#[derive(Clone, Copy, Debug)]
+#[derive(Clone, Copy)]
 pub(crate) enum Limited {
     Cpus,
     Workers,

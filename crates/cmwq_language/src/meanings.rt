@@ -5,7 +5,7 @@ ghost use Rattle.std.specs.Prelude.{◌≡◌};
 use cmwq_types::{Mnemonic, Shape};
 
 /// A flag of queues. `spelling` of the specs is the table of them.
-#[derive(Clone, Copy, Debug)]
+#[derive(Clone, Copy)]
 pub(crate) enum QueueFlag {
     Highpri,
     Unbound,

@@ -6,7 +6,7 @@ ghost use Rattle.std.specs.Prelude.{◌≡◌, ◌+◌, ◌-◌, ◌<◌, ◌^�
 use cmwq_picture::Sign;
 
 /// For how many ticks an instance did what.
-#[derive(Clone, Copy, Debug, PartialEq, Eq)]
+#[derive(Clone, Copy, PartialEq, Eq)]
 pub struct Ticks {
     /// It was pending, with a timer.
     pub timer: u64,
@@ -72,7 +72,7 @@ impl Ticks {
 }
 
 /// What is kept of an instance of a work.
-#[derive(Clone, Copy, Debug, PartialEq, Eq)]
+#[derive(Clone, Copy, PartialEq, Eq)]
 pub struct Account {
     /// The time at which it was asked for, in ticks.
     pub since: u64,

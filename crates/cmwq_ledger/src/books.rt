@@ -21,7 +21,7 @@ use std::marker::Model;
 const MAX_POOLS: usize = 2 * MAX_CPUS as usize + 2;
 
 /// The ledger and the totals of a run.
-#[derive(Debug, Drop)]
+#[derive(Drop)]
 pub struct Books {
     ledger: Ledger,
     totals: Totals,

@@ -4,7 +4,7 @@ ghost use Rattle.cmwq_ledger.specs.Totals.{as_long_as, at_most, nothing_counted,
 ghost use Rattle.std.specs.Prelude.{◌≡◌, ◌-◌, ◌^◌};
 
 /// What is counted of a queue over a run.
-#[derive(Clone, Copy, Debug, PartialEq, Eq)]
+#[derive(Clone, Copy, PartialEq, Eq)]
 pub struct QueueTotals {
     /// How many instances of its works started.
     pub started: u64,
@@ -23,7 +23,7 @@ pub struct QueueTotals {
 }
 
 /// What goes up by one.
-#[derive(Clone, Copy, Debug, PartialEq, Eq)]
+#[derive(Clone, Copy, PartialEq, Eq)]
 pub enum Count {
     /// Instances that started.
     Started,

@@ -4,7 +4,7 @@ use crate::account::Account;
 use cmwq_types::{Place, WorkId};
 
 /// What became of an instance.
-#[derive(Clone, Copy, Debug, PartialEq, Eq)]
+#[derive(Clone, Copy, PartialEq, Eq)]
 pub enum Fate {
     /// It ran to the end of its body.
     Finished,
@@ -17,7 +17,7 @@ pub enum Fate {
 }
 
 /// What is told of an instance when it has ended, or at the end of a run.
-#[derive(Clone, Copy, Debug, PartialEq, Eq)]
+#[derive(Clone, Copy, PartialEq, Eq)]
 pub struct TimesLine {
     /// The time at which it is told, in ticks.
     pub time: u64,

@@ -18,7 +18,7 @@ use std::alloc::Global;
 use std::marker::Model;
 
 /// What is counted of queues, pools and CPUs over a run, by number.
-#[derive(Debug, Drop)]
+#[derive(Drop)]
 pub struct Totals {
     pub(crate) queues: Vec<QueueTotals>,
     /// How many ticks were burned in each pool.

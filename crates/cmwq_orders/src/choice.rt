@@ -3,7 +3,7 @@
 use cmwq_types::Instr;
 
 /// What comes next in an order of the actors' instructions.
-#[derive(Clone, Copy, Debug, PartialEq, Eq)]
+#[derive(Clone, Copy, PartialEq, Eq)]
 pub enum Choice {
     /// The actor of this number, from 0, carries out its next line.
     Line(u8),
@@ -12,7 +12,7 @@ pub enum Choice {
 }
 
 /// One actor begins only once another one has ended. Actors are named by their numbers, from 0.
-#[derive(Clone, Copy, Debug, PartialEq, Eq)]
+#[derive(Clone, Copy, PartialEq, Eq)]
 pub struct Before {
     /// Who has to have ended.
     pub first: u8,

@@ -3,7 +3,7 @@
 use cmwq_types::WorkId;
 
 /// A kind of state to which no order is to come. Actors are named by their numbers, from 0.
-#[derive(Clone, Copy, Debug, PartialEq, Eq)]
+#[derive(Clone, Copy, PartialEq, Eq)]
 pub enum Question {
     /// The actor has ended, and the work is pending or runs.
     After {

@@ -13,7 +13,7 @@ use cmwq_verdict::{Look, ok_line, unread_line, verdict};
 use std::alloc::Global;
 
 /// How a file was judged.
-#[derive(Clone, Copy, Debug, PartialEq, Eq)]
+#[derive(Clone, Copy, PartialEq, Eq)]
 pub enum Judged {
     /// Its text spells a scenario.
     Good,

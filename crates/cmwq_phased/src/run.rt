@@ -6,7 +6,7 @@ use cmwq_table::Running;
 use cmwq_types::Mode;
 
 /// How far a running work is with the operation that it carries out.
-#[derive(Clone, Copy, Debug, PartialEq, Eq)]
+#[derive(Clone, Copy, PartialEq, Eq)]
 pub enum Phase {
     /// It is runnable and has nothing left to burn.
     Ready,
@@ -22,7 +22,7 @@ pub enum Phase {
 
 /// What is known of a running work, with its phase in place of its mode and of the ticks that it has left. So a tick changes nothing of it,
 /// unless something ends.
-#[derive(Clone, Copy, Debug, PartialEq, Eq)]
+#[derive(Clone, Copy, PartialEq, Eq)]
 pub struct Run {
     /// The stamp of its queueing.
     pub born: u64,

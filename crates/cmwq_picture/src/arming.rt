@@ -7,7 +7,7 @@ use cmwq_table::{Pending, Reads};
 use cmwq_types::{Event, Reply, WorkId};
 
 /// A work's body set a timer.
-#[derive(Clone, Copy, Debug)]
+#[derive(Clone, Copy)]
 pub(crate) struct Arming {
     /// When, in ticks.
     pub(crate) time: u64,

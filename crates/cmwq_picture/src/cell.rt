@@ -5,7 +5,7 @@ ghost use Rattle.std.specs.Prelude.{◌≡◌};
 use cmwq_types::WorkId;
 
 /// What a work does in a tick.
-#[derive(Clone, Copy, Debug, PartialEq, Eq)]
+#[derive(Clone, Copy, PartialEq, Eq)]
 pub enum Sign {
     /// It runs, and burns CPU time.
     Burns,
@@ -24,7 +24,7 @@ pub enum Sign {
 }
 
 /// What a row shows in one tick.
-#[derive(Clone, Copy, Debug, PartialEq, Eq)]
+#[derive(Clone, Copy, PartialEq, Eq)]
 pub enum Cell {
     /// Nothing.
     Empty,

@@ -10,7 +10,7 @@ use cmwq_types::{RESCUER, Scenario, WorkId};
 use std::marker::Model;
 
 /// A work that burns, and where.
-#[derive(Clone, Copy, Debug, PartialEq, Eq)]
+#[derive(Clone, Copy, PartialEq, Eq)]
 pub(crate) struct Burning {
     pub(crate) work: WorkId,
     pub(crate) pool: u8,

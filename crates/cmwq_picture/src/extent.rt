@@ -8,7 +8,7 @@ use cmwq_drawing::Span;
 use cmwq_types::WorkId;
 
 /// What a picture is to show.
-#[derive(Clone, Copy, Debug)]
+#[derive(Clone, Copy)]
 pub struct Extent<'a> {
     /// Which ticks.
     pub span: Span,

@@ -5,7 +5,7 @@ use cmwq_types::{Instr, QueueId, WorkId};
 use std::marker::Model;
 
 /// Whose row it is.
-#[derive(Clone, Copy, Debug, PartialEq, Eq)]
+#[derive(Clone, Copy, PartialEq, Eq)]
 pub enum Title {
     /// A work: its run, or where it is pending if it doesn't run.
     Work(WorkId),
@@ -31,7 +31,7 @@ pub enum Title {
 }
 
 /// Something that the actor did.
-#[derive(Clone, Copy, Debug, PartialEq, Eq)]
+#[derive(Clone, Copy, PartialEq, Eq)]
 pub struct Act {
     /// When, in ticks.
     pub time: u64,
@@ -40,7 +40,7 @@ pub struct Act {
 }
 
 /// What is to be said of a rectangle of a row, where it begins.
-#[derive(Debug, Drop)]
+#[derive(Drop)]
 pub struct Hint {
     /// The number of the row, from 0.
     pub row: usize,
@@ -58,7 +58,7 @@ impl Model for Hint {
 }
 
 /// One row: a cell a column.
-#[derive(Debug, Drop)]
+#[derive(Drop)]
 pub struct Row {
     /// Whose row it is.
     pub title: Title,
@@ -75,7 +75,7 @@ impl Model for Row {
 }
 
 /// The rows of a span of ticks, and what the actor did in it.
-#[derive(Debug, Drop)]
+#[derive(Drop)]
 pub struct Picture {
     /// The time at which each column begins, and last the time at which the last one ends, in ticks. A column stands for one tick, or
     /// for more than 20 in which nothing changes.

@@ -1,7 +1,7 @@
 //! What is asked of a run, and of which of its states.
 
 /// What is asked of a run.
-#[derive(Clone, Copy, Debug, PartialEq, Eq)]
+#[derive(Clone, Copy, PartialEq, Eq)]
 pub enum Question<'a> {
     /// Why the work of this name isn't further.
     Work(&'a str),
@@ -10,7 +10,7 @@ pub enum Question<'a> {
 }
 
 /// A question to a scenario's run.
-#[derive(Clone, Copy, Debug, PartialEq, Eq)]
+#[derive(Clone, Copy, PartialEq, Eq)]
 pub struct Inquiry<'a> {
     /// What is asked.
     pub question: Question<'a>,
@@ -21,7 +21,7 @@ pub struct Inquiry<'a> {
 }
 
 /// The positions of a run at which a command looks at the machine. At position `k` the first `k` instructions have been carried out.
-#[derive(Clone, Copy, Debug, PartialEq, Eq)]
+#[derive(Clone, Copy, PartialEq, Eq)]
 pub enum Looks {
     /// At those that are settled, where no timer is due and no pool has a move, and at the last one.
     Settled,

@@ -3,7 +3,7 @@
 use cmwq_types::WorkId;
 
 /// One of the two halves that a work can have at once: what is queued of it, and what runs of it.
-#[derive(Clone, Copy, Debug, PartialEq, Eq)]
+#[derive(Clone, Copy, PartialEq, Eq)]
 pub enum Instance {
     /// What is queued of the work, or waits for a timer.
     Pending(WorkId),
@@ -12,7 +12,7 @@ pub enum Instance {
 }
 
 /// What becomes of a listed work in its pool's next move.
-#[derive(Clone, Copy, Debug, PartialEq, Eq)]
+#[derive(Clone, Copy, PartialEq, Eq)]
 pub enum Turn {
     /// A worker takes it.
     Starts,
@@ -23,7 +23,7 @@ pub enum Turn {
 }
 
 /// Why an instance isn't further than it is. Pools, CPUs and times are numbers of the machine.
-#[derive(Clone, Copy, Debug, PartialEq, Eq)]
+#[derive(Clone, Copy, PartialEq, Eq)]
 pub enum Reason {
     /// It runs, and sleeps until this tick.
     Asleep(u64),

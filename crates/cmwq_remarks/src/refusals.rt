@@ -11,7 +11,7 @@ use cmwq_table::Machine;
 use cmwq_types::{Line, Refusal, Reply};
 
 /// The refused instructions of a run.
-#[derive(Clone, Copy, Debug)]
+#[derive(Clone, Copy)]
 pub struct Refusals {
     /// How many there are.
     pub count: u32,

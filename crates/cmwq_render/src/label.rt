@@ -13,7 +13,7 @@ use std::fmt;
 /// `rescuer QUEUE`, `frozen`, `pressure`, or `actor`. P and N are numbers.
 ///
 /// A work or queue that the scenario doesn't have has no name. The format is this project's own.
-#[derive(Clone, Copy, Debug)]
+#[derive(Clone, Copy)]
 pub struct Label<'a> {
     /// The scenario whose names it has.
     pub scenario: &'a Scenario,

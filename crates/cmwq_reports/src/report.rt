@@ -4,7 +4,7 @@
 pub const MOST_LIMITS: u16 = 64;
 
 /// What is told of where a run's time went.
-#[derive(Clone, Copy, Debug, PartialEq, Eq)]
+#[derive(Clone, Copy, PartialEq, Eq)]
 pub struct Times {
     /// How rows are written.
     pub format: Format,
@@ -13,7 +13,7 @@ pub struct Times {
 }
 
 /// What is told of runs that differ by a queue's declared `max_active`.
-#[derive(Clone, Copy, Debug, PartialEq, Eq)]
+#[derive(Clone, Copy, PartialEq, Eq)]
 pub struct Sweep<'a> {
     /// The queue's name.
     pub queue: &'a str,
@@ -24,7 +24,7 @@ pub struct Sweep<'a> {
 }
 
 /// Some values of a queue's `max_active`, one after another.
-#[derive(Clone, Copy, Debug, PartialEq, Eq)]
+#[derive(Clone, Copy, PartialEq, Eq)]
 pub struct LimitRange {
     /// The first one, from 1.
     pub low: u16,
@@ -33,7 +33,7 @@ pub struct LimitRange {
 }
 
 /// How rows are written.
-#[derive(Clone, Copy, Debug, PartialEq, Eq)]
+#[derive(Clone, Copy, PartialEq, Eq)]
 pub enum Format {
     /// As text: words and numbers, with spaces between them.
     Text,
@@ -42,7 +42,7 @@ pub enum Format {
 }
 
 /// What a run is written as, for tools that show traces.
-#[derive(Clone, Copy, Debug, PartialEq, Eq)]
+#[derive(Clone, Copy, PartialEq, Eq)]
 pub enum TraceForm {
     /// As slices in Chrome's trace event format.
     Json,

@@ -24,7 +24,7 @@ use std::alloc::{AllocError, Global};
 pub const STANDARD_INPUT: &str = "-";
 
 /// What the words ask for. The paths are as they were given.
-#[derive(Debug, PartialEq, Eq, Drop)]
+#[derive(PartialEq, Eq, Drop)]
 pub enum Request<'a> {
     /// Write a scenario to start from, to a file that isn't there yet, or to standard output.
     New {

@@ -15,7 +15,7 @@ use smallvec::SmallVec;
 use std::marker::Model;
 
 /// A word of a line.
-#[derive(Debug, Default, Drop)]
+#[derive(Default, Drop)]
 pub struct Token<'t> {
     bytes: &'t [u8],
     column: usize,

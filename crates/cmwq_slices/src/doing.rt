@@ -8,7 +8,7 @@ use cmwq_table::Pending;
 use cmwq_types::{Mode, Place};
 
 /// Which of the two instances of a work that can be there at once.
-#[derive(Clone, Copy, Debug, PartialEq, Eq)]
+#[derive(Clone, Copy, PartialEq, Eq)]
 pub enum Half {
     /// The one that runs.
     Running,
@@ -17,7 +17,7 @@ pub enum Half {
 }
 
 /// What an instance does in a tick.
-#[derive(Clone, Copy, Debug, PartialEq, Eq)]
+#[derive(Clone, Copy, PartialEq, Eq)]
 pub struct Doing {
     /// The stamp of its queueing, which no other instance has.
     pub born: u64,

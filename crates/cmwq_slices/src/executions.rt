@@ -11,7 +11,7 @@ use std::alloc::Global;
 use std::marker::Model;
 
 /// An instance that runs, since when, and on whom.
-#[derive(Clone, Copy, Debug, PartialEq, Eq)]
+#[derive(Clone, Copy, PartialEq, Eq)]
 pub struct OpenExecution {
     /// The stamp of the instance's queueing.
     pub born: u64,
@@ -24,7 +24,7 @@ pub struct OpenExecution {
 }
 
 /// An instance of a work on a worker, from its start to its end.
-#[derive(Clone, Copy, Debug, PartialEq, Eq)]
+#[derive(Clone, Copy, PartialEq, Eq)]
 pub struct Execution {
     /// Whose instance it was.
     pub work: WorkId,

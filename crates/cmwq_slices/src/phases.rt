@@ -14,7 +14,7 @@ use std::alloc::Global;
 use std::marker::Model;
 
 /// A phase that goes on: what an instance does, tick after tick.
-#[derive(Clone, Copy, Debug, PartialEq, Eq)]
+#[derive(Clone, Copy, PartialEq, Eq)]
 pub struct OpenPhase {
     /// The instance, and what it does.
     pub doing: Doing,
@@ -23,7 +23,7 @@ pub struct OpenPhase {
 }
 
 /// A phase from its begin to its end.
-#[derive(Clone, Copy, Debug, PartialEq, Eq)]
+#[derive(Clone, Copy, PartialEq, Eq)]
 pub struct PhaseSlice {
     /// Whose instance it was.
     pub work: WorkId,
@@ -38,7 +38,7 @@ pub struct PhaseSlice {
 }
 
 /// The open phases of a work's instances.
-#[derive(Clone, Copy, Debug, PartialEq, Eq)]
+#[derive(Clone, Copy, PartialEq, Eq)]
 pub struct WorkPhases {
     /// Of the one that runs.
     pub running: Option<OpenPhase>,

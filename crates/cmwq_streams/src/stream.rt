@@ -32,7 +32,7 @@ pub trait Sink: Write {
 }
 
 /// Makes any reader a `Source`, and any writer a `Sink`.
-#[derive(Debug, Drop)]
+#[derive(Drop)]
 pub struct Marked<X> {
     /// The reader or writer itself.
     pub inner: X,

@@ -6,7 +6,7 @@ use cmwq_reports::Format;
 use std::fmt;
 
 /// What a run comes to where the queue is declared with one value of `max_active`.
-#[derive(Clone, Copy, Debug, PartialEq, Eq)]
+#[derive(Clone, Copy, PartialEq, Eq)]
 pub struct SweepRow {
     /// The value.
     pub max: u16,

@@ -28,7 +28,7 @@ pub enum LoadError {
 }
 
 /// What a machine did by itself, and the work that it did it to.
-#[derive(Clone, Copy, Debug, PartialEq, Eq)]
+#[derive(Clone, Copy, PartialEq, Eq)]
 pub struct Happened {
     /// The work that was moved.
     pub work: WorkId,
@@ -37,7 +37,7 @@ pub struct Happened {
 }
 
 /// How a `next` came out.
-#[derive(Clone, Copy, Debug, PartialEq, Eq)]
+#[derive(Clone, Copy, PartialEq, Eq)]
 pub enum Went {
     /// This happened to a work.
     Happened(Happened),

@@ -9,7 +9,7 @@ use std::fmt;
 ///
 /// Its text is a line `TIME WORD ..` with a line feed at its end, or no text for `Queued` and `Done`,
 /// which say nothing. The format is this project's own.
-#[derive(Clone, Copy, Debug)]
+#[derive(Clone, Copy)]
 pub struct ReplyLine<'a> {
     /// The scenario whose names the line has.
     pub scenario: &'a Scenario,
@@ -157,7 +157,7 @@ fn found_text(was: bool) -> &'static str
 
 /// The words of where a work waits: `idle`, `timer DUE`, `inactive P`, `listed P` or `deferred P`, as the
 /// answer to `State` has them. DUE is a tick, P a pool's number.
-#[derive(Clone, Copy, Debug)]
+#[derive(Clone, Copy)]
 pub struct PlaceWords(pub Option<Place>);
 
 impl fmt::Display for PlaceWords {
@@ -176,7 +176,7 @@ impl fmt::Display for PlaceWords {
 
 /// The words of where a work runs: `still`, `runs P/WORKER` or `asleep P/WORKER UNTIL`, as the answer to
 /// `State` has them. P is a pool's number, WORKER that of a worker of the pool or `rescuer`, UNTIL a tick.
-#[derive(Clone, Copy, Debug)]
+#[derive(Clone, Copy)]
 pub struct RunWords(pub Option<WorkRun>);
 
 impl fmt::Display for RunWords {
@@ -196,7 +196,7 @@ impl fmt::Display for RunWords {
 }
 
 /// The number of a worker of a pool, or `rescuer` where it is `RESCUER`, as the answer to `State` has it.
-#[derive(Clone, Copy, Debug)]
+#[derive(Clone, Copy)]
 pub struct WorkerWords(pub u8);
 
 impl fmt::Display for WorkerWords {

@@ -8,7 +8,7 @@ ghost use Rattle.std.specs.Prelude.{◌≡◌};
 use cmwq_types::{Mode, Place, QueueId, WorkId};
 
 /// What is known of a pending work.
-#[derive(Clone, Copy, Debug, PartialEq, Eq)]
+#[derive(Clone, Copy, PartialEq, Eq)]
 pub struct Pending {
     /// The stamp of its queueing.
     pub born: u64,
@@ -29,7 +29,7 @@ impl Pending {
 }
 
 /// What is known of a running work.
-#[derive(Clone, Copy, Debug, PartialEq, Eq)]
+#[derive(Clone, Copy, PartialEq, Eq)]
 pub struct Running {
     /// The stamp of its queueing.
     pub born: u64,
@@ -58,7 +58,7 @@ impl Running {
 }
 
 /// What a flush waits for.
-#[derive(Clone, Copy, Debug, PartialEq, Eq)]
+#[derive(Clone, Copy, PartialEq, Eq)]
 pub enum FlushTarget {
     /// The instance of the work that was queued at the stamp `born`.
     Instance { work: WorkId, born: u64 },

@@ -5,7 +5,7 @@ use cmwq_types::WorkId;
 use std::marker::Model;
 
 /// A worker that is idle.
-#[derive(Clone, Copy, Debug, PartialEq, Eq)]
+#[derive(Clone, Copy, PartialEq, Eq)]
 pub struct IdleWorker {
     /// Its pool.
     pub pool: u8,
@@ -16,7 +16,7 @@ pub struct IdleWorker {
 }
 
 /// Every part of a machine's state.
-#[derive(Debug, Drop)]
+#[derive(Drop)]
 pub struct View {
     /// The time, in ticks.
     pub time: u64,

@@ -5,7 +5,7 @@ use cmwq_question::Inquiry;
 use cmwq_reports::{Times, TraceForm};
 
 /// How a scenario is run.
-#[derive(Clone, Copy, Debug, PartialEq, Eq)]
+#[derive(Clone, Copy, PartialEq, Eq)]
 pub enum RunKind {
     /// As far as its actor's instructions go.
     Plain,
@@ -18,7 +18,7 @@ pub enum RunKind {
 }
 
 /// What is done with an input: the text of a scenario, or an image.
-#[derive(Clone, Copy, Debug, PartialEq, Eq)]
+#[derive(Clone, Copy, PartialEq, Eq)]
 pub enum Task<'a> {
     /// The scenario is run.
     Run(RunKind),

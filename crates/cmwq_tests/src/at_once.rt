@@ -22,7 +22,7 @@ pub(crate) enum Part {
 }
 
 /// What came of it.
-#[derive(Clone, Copy, Debug, PartialEq, Eq)]
+#[derive(Clone, Copy, PartialEq, Eq)]
 pub(crate) enum Done {
     /// How its questions went.
     Asked(Outcomes),
@@ -31,7 +31,7 @@ pub(crate) enum Done {
 }
 
 /// How many instructions came into the history, and how many found it full.
-#[derive(Clone, Copy, Debug, PartialEq, Eq)]
+#[derive(Clone, Copy, PartialEq, Eq)]
 pub(crate) struct Outcomes {
     pub(crate) entered: u32,
     pub(crate) full: u32,

@@ -109,7 +109,7 @@ fn issued<M: Machine>(
 {
     match shared.try_issue(drawn, instr) {
         Ok((pass, got)) => {
-            same(rt, instr, got, want);
+            same(rt, "its turn", got, want);
             pass
         }
         Err(_not_yet) => panic!(rt; "its turn has come"),
@@ -134,10 +134,10 @@ fn not_yet_issued<M: Machine>(
                 drawn,
                 ticket,
                 served,
-                call,
+                call: _,
             },
         ) => {
-            same(rt, call, (ticket, served), want);
+            same(rt, "no turn yet", (ticket, served), want);
             drawn
         }
     }
@@ -230,7 +230,7 @@ fn serve_on<M: Machine, R: Wait + Abort>(
     ensures { IsPassOf shared.now result }
 {
     let (pass, outcome) = shared.issue(rt, pass, Instr::State(other));
-    same(rt, other, is_pending(outcome), true);
+    same(rt, other.0, is_pending(outcome), true);
     pass
 }
 

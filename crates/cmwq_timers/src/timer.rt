@@ -3,7 +3,7 @@
 use cmwq_types::WorkId;
 
 /// A delayed work's timer: when it is due, and the CPU on which the work is then placed.
-#[derive(Clone, Copy, Debug, PartialEq, Eq)]
+#[derive(Clone, Copy, PartialEq, Eq)]
 pub struct Timer {
     /// The tick at which it is due.
     pub due: u64,

@@ -34,7 +34,7 @@ pub enum Shape {
 }
 
 /// The operands of an instruction: each field that its shape doesn't have is 0.
-#[derive(Clone, Copy, Debug, PartialEq, Eq)]
+#[derive(Clone, Copy, PartialEq, Eq)]
 pub struct Fields {
     /// A CPU or a pool.
     pub cpu: u8,

@@ -1,11 +1,11 @@
 //! The instructions of the machine.
 
 /// The number of a queue, from 0 in the order of declaration. There are at most 32.
-#[derive(Clone, Copy, Debug, PartialEq, Eq)]
+#[derive(Clone, Copy, PartialEq, Eq)]
 pub struct QueueId(pub u8);
 
 /// The number of a work, from 0 in the order of declaration. There are at most 256.
-#[derive(Clone, Copy, Debug, PartialEq, Eq)]
+#[derive(Clone, Copy, PartialEq, Eq)]
 pub struct WorkId(pub u16);
 
 /// One instruction: what an actor may ask of the machine.
@@ -14,7 +14,7 @@ pub struct WorkId(pub u16);
 /// refused, as `Spent`, where the scenario's `steps` are spent: but for the three questions `Ask`, `Busy` and
 /// `State`, and `Until`, `Wait` and `Quiet` where they do nothing.
 /// The instructions are calls of the kernel's, as each says; their refusals are this project's own.
-#[derive(Clone, Copy, Debug, PartialEq, Eq)]
+#[derive(Clone, Copy, PartialEq, Eq)]
 pub enum Instr {
     /// Queues the work on the CPU, as the kernel's `queue_work_on` does. A pending work stays as it is.
     ///

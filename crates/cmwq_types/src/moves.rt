@@ -3,7 +3,7 @@
 use crate::instr::WorkId;
 
 /// The next move of a worker pool.
-#[derive(Clone, Copy, Debug, PartialEq, Eq)]
+#[derive(Clone, Copy, PartialEq, Eq)]
 pub enum Move {
     /// The work carries out the operation that it has come to.
     Advance(WorkId),

@@ -10,7 +10,7 @@ use std::marker::Model;
 /// A name: 1 to 15 bytes, the first of them `a` to `z`, the others `a` to `z`, `0` to `9` or `_`.
 ///
 /// The rule is this project's own.
-#[derive(Clone, Copy, Debug, PartialEq, Eq)]
+#[derive(Clone, Copy, PartialEq, Eq)]
 pub struct Name {
     bytes: [u8; 15],
     len: u8,

@@ -5,7 +5,7 @@ ghost use Rattle.std.specs.Prelude.{◌≡◌};
 use crate::instr::WorkId;
 
 /// Where a pending work waits. Pools, CPUs and times are numbers of the machine.
-#[derive(Clone, Copy, Debug, PartialEq, Eq)]
+#[derive(Clone, Copy, PartialEq, Eq)]
 pub enum Place {
     /// A delayed work's timer runs until `due` ticks, and then places the work on `cpu`.
     Timer { due: u64, cpu: u8 },
@@ -79,7 +79,7 @@ impl Place {
 }
 
 /// What a worker that runs a work does.
-#[derive(Clone, Copy, Debug, PartialEq, Eq)]
+#[derive(Clone, Copy, PartialEq, Eq)]
 pub enum Mode {
     /// It has the CPU, or waits for it.
     Runnable,
@@ -114,7 +114,7 @@ impl Mode {
 }
 
 /// What a move of the machine did to the work that it moved.
-#[derive(Clone, Copy, Debug, PartialEq, Eq)]
+#[derive(Clone, Copy, PartialEq, Eq)]
 pub enum Event {
     /// A worker took the work from the worklist.
     Starts,
@@ -173,7 +173,7 @@ pub enum Event {
 }
 
 /// Why no time may pass.
-#[derive(Clone, Copy, Debug, PartialEq, Eq)]
+#[derive(Clone, Copy, PartialEq, Eq)]
 pub enum Cause {
     /// A timer is due.
     Due,
@@ -182,7 +182,7 @@ pub enum Cause {
 }
 
 /// Why an instruction was refused. A refused instruction changes nothing.
-#[derive(Clone, Copy, Debug, PartialEq, Eq)]
+#[derive(Clone, Copy, PartialEq, Eq)]
 pub enum Refusal {
     /// No work has the number.
     NoSuchWork,
@@ -223,7 +223,7 @@ pub enum Refusal {
 }
 
 /// Where a running work runs.
-#[derive(Clone, Copy, Debug, PartialEq, Eq)]
+#[derive(Clone, Copy, PartialEq, Eq)]
 pub struct WorkRun {
     /// The pool in which it runs.
     pub pool: u8,
@@ -234,7 +234,7 @@ pub struct WorkRun {
 }
 
 /// Where a work is.
-#[derive(Clone, Copy, Debug, PartialEq, Eq)]
+#[derive(Clone, Copy, PartialEq, Eq)]
 pub struct WorkState {
     /// Where it waits, if it is pending.
     pub place: Option<Place>,
@@ -243,7 +243,7 @@ pub struct WorkState {
 }
 
 /// What the machine answers to an instruction.
-#[derive(Clone, Copy, Debug, PartialEq, Eq)]
+#[derive(Clone, Copy, PartialEq, Eq)]
 pub enum Reply {
     /// The work was queued.
     Queued,

@@ -5,7 +5,7 @@ use crate::name::Name;
 use std::marker::Model;
 
 /// The flags of a queue, as in the kernel's `alloc_workqueue`.
-#[derive(Clone, Copy, Debug, PartialEq, Eq)]
+#[derive(Clone, Copy, PartialEq, Eq)]
 pub struct Flags {
     /// `WQ_HIGHPRI`: its works go to the high pool of a CPU, or to the unbound high pool where the queue is
     /// unbound or ordered.
@@ -36,7 +36,7 @@ impl Flags {
 }
 
 /// A queue as it is declared.
-#[derive(Clone, Copy, Debug, PartialEq, Eq)]
+#[derive(Clone, Copy, PartialEq, Eq)]
 pub struct QueueDecl {
     /// No other queue has this name.
     pub name: Name,
@@ -47,7 +47,7 @@ pub struct QueueDecl {
 }
 
 /// One operation of a work's body.
-#[derive(Clone, Copy, Debug, PartialEq, Eq)]
+#[derive(Clone, Copy, PartialEq, Eq)]
 pub enum Op {
     /// Keeps the CPU for this many ticks, 1 to 1,000,000.
     Burn(u32),
@@ -67,7 +67,7 @@ pub enum Op {
 }
 
 /// A work as it is declared.
-#[derive(Debug, Drop)]
+#[derive(Drop)]
 pub struct WorkDecl {
     /// No other work has this name.
     pub name: Name,
@@ -86,7 +86,7 @@ impl Model for WorkDecl {
 }
 
 /// An instruction that an actor gives a number of times.
-#[derive(Clone, Copy, Debug, PartialEq, Eq)]
+#[derive(Clone, Copy, PartialEq, Eq)]
 pub struct Line {
     /// The instruction.
     pub instr: Instr,
@@ -95,7 +95,7 @@ pub struct Line {
 }
 
 /// Who gives instructions.
-#[derive(Debug, Drop)]
+#[derive(Drop)]
 pub struct Actor {
     /// No other actor has this name.
     pub name: Name,
@@ -112,7 +112,7 @@ impl Model for Actor {
 }
 
 /// A scenario. `check` says whether it is valid.
-#[derive(Debug, Drop)]
+#[derive(Drop)]
 pub struct Scenario {
     /// 1 to 16.
     pub cpus: u8,

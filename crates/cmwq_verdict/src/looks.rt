@@ -14,7 +14,7 @@ use cmwq_scan::next_line;
 use cmwq_types::NoMemory;
 
 /// How a verdict looks.
-#[derive(Clone, Copy, Debug, PartialEq, Eq)]
+#[derive(Clone, Copy, PartialEq, Eq)]
 pub enum Look {
     /// As plain bytes, for files and editors.
     Plain,
