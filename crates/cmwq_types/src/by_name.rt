@@ -10,7 +10,9 @@ impl Scenario {
         ensures named { result ≡ work_named self.now name.now }
         ensures in_range { IfSome result (λ w. w < length self.now.works) }
     {
-        self.works.iter().position(|work| work.name.as_bytes() == name)
+        self.works
+            .iter()
+            .position(|work| work.name.as_bytes() == name)
     }
 
     /// Returns the number of the queue of this name, from 0, if there is one.
@@ -18,7 +20,9 @@ impl Scenario {
         ensures named { result ≡ queue_named self.now name.now }
         ensures in_range { IfSome result (λ queue. queue < length self.now.queues) }
     {
-        self.queues.iter().position(|queue| queue.name.as_bytes() == name)
+        self.queues
+            .iter()
+            .position(|queue| queue.name.as_bytes() == name)
     }
 
     /// Returns the number of the caller of this name, from 0, if there is one.
@@ -26,6 +30,8 @@ impl Scenario {
         ensures named { result ≡ actor_named self.now name.now }
         ensures in_range { IfSome result (λ actor. actor < length self.now.actors) }
     {
-        self.actors.iter().position(|actor| actor.name.as_bytes() == name)
+        self.actors
+            .iter()
+            .position(|actor| actor.name.as_bytes() == name)
     }
 }
