@@ -14,18 +14,21 @@ TOP = os.path.dirname(os.path.dirname(os.path.realpath(__file__)))
 
 # Each builds a program that says who it is, where it runs, its words and its input, and ends with status 7.
 PROGRAM = "#!/bin/sh\nprintf '%s %s %s ' {who} \"$PWD\" \"$*\"\ncat\nexit 7\n"
-TOOL = """import os
+TOOL = """import os, sys
 top = os.path.dirname(os.path.dirname(os.path.realpath(__file__)))
-program = f"{{top}}/{path}"
+words = sys.argv[1:]
+program = f"{{top}}/out/optimized/cmwq" if words else f"{{top}}/{path}"
 os.makedirs(os.path.dirname(program), exist_ok=True)
 with open(f"{{top}}/calls", "a") as it:
-    it.write("{who}\\n")
+    it.write(" ".join(["{who}", *words]) + "\\n")
 with open(program, "w") as it:
-    it.write({text!r})
+    it.write({text!r}.replace("{who} ", "optimized ") if words else {text!r})
 os.chmod(program, 0o755)
 open(program + ".mark", "w").close()
 """
 NOTE = "cmwq: this build is not proved yet; ./cmwq --prove proves it, in about "
+SLOW = "cmwq: it is slow, too; ./cmwq --optimized builds one that is "
+FIRST = "cmwq: first it is built "
 
 
 def write(path, text, mode=0o644):
@@ -60,13 +63,19 @@ def call(room, *words, command="cmwq", cwd=None, path=None):
 
 
 def calls(room):
-    return read(f"{room}/calls").split()
+    return read(f"{room}/calls").splitlines()
+
+
+def begin_with(errors, *beginnings):
+    """Whether these are the lines that were said, each by how it begins."""
+    lines = errors.splitlines()
+    return len(lines) == len(beginnings) and all(map(str.startswith, lines, beginnings))
 
 
 def check_builds(room):
     status, output, errors = call(room, "run", "a file")
     assert (status, output) == (7, f"unproved {room} run a file input"), "the words, the input and the status are handed on"
-    assert errors.startswith(NOTE) and [it.startswith("cmwq: first it is built") for it in errors.splitlines()] == [False, True], errors
+    assert begin_with(errors, NOTE, SLOW, FIRST), errors
     elsewhere = f"{room}/elsewhere"
     os.makedirs(elsewhere)
     assert call(room, "x", cwd=elsewhere)[1] == f"unproved {elsewhere} x input", "it runs where it is called"
@@ -76,11 +85,15 @@ def check_builds(room):
     touch(f"{room}/crates/low/src/lib.rt")
     call(room, "x")
     assert calls(room) == ["unproved", "unproved"], "a changed source is built again"
+    assert begin_with(call(room, "x")[2], NOTE, SLOW), "a slow program says so each time"
+    assert call(room, "--optimized", "x")[:2] == (0, ""), "it is built, and isn't run"
+    status, output, errors_then = call(room, "x")
+    assert (status, output) == (7, f"optimized {room} x input") and begin_with(errors_then, NOTE), "the quick one runs then, and isn't slow"
     assert call(room, "--prove")[0] == 0
     assert call(room, "x") == (7, f"prove {room} x input", ""), "a proved program runs, and nothing is said"
     touch(f"{room}/crates/low/specs/Lib.antt")
     assert call(room, "x")[1:] == (f"unproved {room} x input", errors), "a changed definition isn't proved"
-    assert calls(room) == ["unproved", "unproved", "prove", "unproved"]
+    assert calls(room) == ["unproved", "unproved", "unproved --optimized", "prove", "unproved"]
 
 
 def touch(path):
@@ -167,18 +180,19 @@ fn main(rt: HostRuntime) -> io::Result<()> {
 
 
 def check_unproved(room):
-    """A program that is built unproved is optimised, and stops at an index out of bounds and at a sum that wraps."""
+    """A program that is built unproved, optimized or not, stops at an index out of bounds and at a sum that wraps."""
     write(f"{room}/crates.txt", "cmwq:\n")
     write(f"{room}/crates/cmwq/src/main.rt", CARELESS)
     for file in ("tools/unproved.py", "tools/kit.py"):
         write(f"{room}/{file}", read(f"{TOP}/{file}"))
-    os.makedirs(f"{room}/out/unproved")
-    assert subprocess.run([sys.executable, f"{room}/tools/unproved.py"]).returncode == 0
-    program = f"{room}/out/unproved/cmwq"
-    ran = [subprocess.run([program, *words], stdout=subprocess.PIPE, text=True) for words in (["a"], ["a", "b"], ["a", "b", "c"])]
-    assert [(it.returncode, it.stdout) for it in ran] == [(0, "one\n"), (-signal.SIGILL, ""), (-signal.SIGILL, "")], ran
+    for at, words in (("unproved", []), ("optimized", ["--optimized"])):
+        os.makedirs(f"{room}/out/{at}")
+        assert subprocess.run([sys.executable, f"{room}/tools/unproved.py", *words]).returncode == 0
+        program = f"{room}/out/{at}/cmwq"
+        ran = [subprocess.run([program, *words], stdout=subprocess.PIPE, text=True) for words in (["a"], ["a", "b"], ["a", "b", "c"])]
+        assert [(it.returncode, it.stdout) for it in ran] == [(0, "one\n"), (-signal.SIGILL, ""), (-signal.SIGILL, "")], ran
     with open(program, "rb") as it:
-        assert b"rattle-llvm-checks" not in it.read(), "what is optimised has no function that only checks"
+        assert b"rattle-llvm-checks" not in it.read(), "what is optimized has no function that only checks"
 
 
 def small(room):
