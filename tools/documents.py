@@ -110,7 +110,7 @@ def road(root, modules, functions):
 def road_rows(root):
     """A row for each promise. Files that the first one's row has aren't named again."""
     modules, first = modules_of(root), None
-    rows = ["| Promise | Definitions, lines | Their files in `specs/` | Files of `src/` whose types and constants they name |", "|---|---|---|---|"]
+    rows = ["| Promise | Definitions, lines | Their files in `specs/` | Files of `src/` with types and constants that they name |", "|---|---|---|---|"]
     for what, functions in PROMISES:
         seen, declared = road(root, modules, functions)
         files, lines = {module for module, _ in seen}, sum(len(modules[module].blocks[name]) for module, name in seen)
@@ -195,7 +195,8 @@ def anchors(text):
 
 def lost_links(root):
     """The links of the documents that lead to no file or to no heading."""
-    faults, pages = [], {path: pathlib.Path(path).read_text("utf-8") for path in glob.glob(f"{root}/*.md") + glob.glob(f"{root}/docs/**/*.md", recursive=True) + glob.glob(f"{root}/scenarios/**/*.md", recursive=True)}
+    paths = [path for it in ("*.md", "docs/**/*.md", "crates/*/*.md", "scenarios/**/*.md") for path in glob.glob(f"{root}/{it}", recursive=True)]
+    faults, pages = [], {path: pathlib.Path(path).read_text("utf-8") for path in paths}
     for page, text in sorted(pages.items()):
         for link in re.findall(r"\]\((?!https?:)([^)\s]+)\)", re.sub(r"^```.*?^```$|`[^`\n]*`", "", text, flags=re.S | re.M)):
             file, _, anchor = link.partition("#")
