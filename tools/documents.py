@@ -136,12 +136,12 @@ def map_rows(root):
     rows = []
     for line in pathlib.Path(root, "crates.txt").read_text("utf-8").splitlines():
         if line.startswith("# "):
-            rows += ["", f"### {line[2:]}", "", "| Crate | What it is |", "|---|---|"]
+            rows += ["", f"### {line[2:]}", ""]
         elif line.strip():
             name = line.split(":")[0].split()[0]
             head = re.match(r"((?://! .*\n)+)", root_file(root, name))[1]
             lines = [it[4:] for it in head.splitlines() if not CLAIM.match(it[4:])]
-            rows.append(f"| `{name}` | {' '.join(lines)} |")
+            rows.append(f"- `{name}`. {' '.join(lines)}")
     return rows[1:]
 
 
