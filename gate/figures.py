@@ -5,15 +5,19 @@ import re
 
 HEAD = """# Figures of the gate, crate by crate
 
-`./check --all` writes this file where it passes and no proof was kept from an earlier run on the machine. This was on {day}, with `{kit}`, on {cores} processors: {minutes:.0f} minutes
-by the clock and {spent:.0f} of processor time, of which all proofs, tests and programs took {proofs:.0f}.
+`./check --all` writes this part of the file if it passes and no proof was kept from an earlier run on the machine. This was on {day}, with `{kit}`, on {cores} processors. It took {minutes:.0f} minutes by the clock and {spent:.0f} of processor time. All proofs, tests and programs took {proofs:.0f} of these.
 
-Of each crate: processor seconds to prove it from nothing and write its library, where the rounds need that; how many wrong bodies it has, in how many rounds, and the processor seconds of
-these, with those that were tried alone.
+The columns of the table:
 
-| Crate | Seconds | Wrong bodies | Rounds | Seconds |
+- processor seconds to prove the crate from nothing and write its library, if the rounds need that
+- how many mutations the crate has, and in how many rounds
+- processor seconds of these, with those that were tried alone
+
+| Crate | Seconds | Mutations | Rounds | Seconds |
 |---|---|---|---|---|
 """
+# The heading of the part that people write. It is kept.
+BY_HAND = "\n## Measured by hand\n"
 
 
 def is_from_nothing(lines):
@@ -38,3 +42,8 @@ def text_of(rounds, kit, minutes, proofs):
     """The whole file, of a run that took so many minutes by the clock, and of processor time for the proofs."""
     head = HEAD.format(day=datetime.date.today(), kit=kit, cores=len(os.sched_getaffinity(0)), minutes=minutes, spent=minutes_spent(), proofs=proofs)
     return head + "".join(row(name, rounds) for name in rounds.crates if {("proof", name), ("tries", name)} & rounds.seconds.keys())
+
+
+def by_hand(text):
+    """Returns the part of the file that people write, with its heading."""
+    return "".join(text.partition(BY_HAND)[1:])

@@ -189,6 +189,7 @@ with tempfile.TemporaryDirectory() as room:
     assert tower.run(("tries", "mid"), room, "must-fail", "mid") == (-9, "rt must-fail mid said nothing, and ended with -9"), "what was killed refused nothing"
     del tower.seconds["tries", "mid"]
     assert figures.text_of(tower, "a kit", 59.4, 20.2).splitlines()[-1] == "| `low` | 62 | | | |", "a crate that no wrong body needs has no row"
+    assert figures.by_hand(figures.text_of(tower, "a kit", 59.4, 20.2)) == "" and figures.by_hand(f"a\n{figures.BY_HAND}b\n") == f"{figures.BY_HAND}b\n"
 
 
 class Told(bodies.Rounds):

@@ -1,7 +1,8 @@
 """Writes what documents compute from the tree, or says what in them isn't so.
 
-  tools/documents.py           writes it
-  tools/documents.py --check   compares, and says which document isn't as computed
+  tools/documents.py                writes it
+  tools/documents.py --check        compares, and says which document isn't as computed
+  tools/documents.py --page CRATE   prints a page on a crate: its public functions with their clauses, and its must-fail edits
 
 In docs/MAP.md the crates by storeys, from crates.txt and the first paragraph of each crate's root file; in docs/MODEL.md the definitions
 that some public contracts cite, as far as these go, with their files and lines; in docs/PROVED.md what is proved of each crate, from the
@@ -26,6 +27,10 @@ PROMISES = [
 BEGINS = re.compile(r"^\s*(?:(?:abbrev|unfoldable|opaque|pub)\s+)*(?:record\s+|data\s+)?([^\s:(){},]+)\s*(?:[({].*)?:(?:\s|$)")
 # A line on what is proved of a crate, or what isn't.
 CLAIM = re.compile(r"(Proved|Not proved): (.+)")
+# The head of a function, with its name; of a trait or of a type's functions, with the trait's name and the type's; a clause.
+HEAD = re.compile(r"^( *)(pub )?(?:pub\(\w+\) )?(?:const |unsafe )*fn (\w+)", re.M)
+OWNER = re.compile(r"^(?:pub\(\w+\) )?(pub trait|trait|impl(?:<.*?>)?) (?:(\S.*?) for )?(.+?)(?: \{)?$", re.M)
+CLAUSE = re.compile(r"^ *(requires|ensures)(?: (\w+))? \{", re.M)
 IMPORT = re.compile(r"^\s*(?:pub )?(?:ghost )?use Rattle\.([\w.]+?)(?:\.\{(.*?)\}| as (\w+));?\s*$")
 
 
@@ -110,7 +115,7 @@ def road(root, modules, functions):
 def road_rows(root):
     """A row for each promise. Files that the first one's row has aren't named again."""
     modules, first = modules_of(root), None
-    rows = ["| Promise | Definitions, lines | Their files in `specs/` | Files of `src/` whose types and constants they name |", "|---|---|---|---|"]
+    rows = ["| Promise | Definitions, lines | Their files in `specs/` | Files of `src/` with types and constants that they name |", "|---|---|---|---|"]
     for what, functions in PROMISES:
         seen, declared = road(root, modules, functions)
         files, lines = {module for module, _ in seen}, sum(len(modules[module].blocks[name]) for module, name in seen)
@@ -136,12 +141,12 @@ def map_rows(root):
     rows = []
     for line in pathlib.Path(root, "crates.txt").read_text("utf-8").splitlines():
         if line.startswith("# "):
-            rows += ["", f"### {line[2:]}", "", "| Crate | What it is |", "|---|---|"]
+            rows += ["", f"### {line[2:]}", ""]
         elif line.strip():
             name = line.split(":")[0].split()[0]
             head = re.match(r"((?://! .*\n)+)", root_file(root, name))[1]
             lines = [it[4:] for it in head.splitlines() if not CLAIM.match(it[4:])]
-            rows.append(f"| `{name}` | {' '.join(lines)} |")
+            rows.append(f"- `{name}`. {' '.join(lines)}")
     return rows[1:]
 
 
@@ -195,7 +200,8 @@ def anchors(text):
 
 def lost_links(root):
     """The links of the documents that lead to no file or to no heading."""
-    faults, pages = [], {path: pathlib.Path(path).read_text("utf-8") for path in glob.glob(f"{root}/*.md") + glob.glob(f"{root}/docs/**/*.md", recursive=True) + glob.glob(f"{root}/scenarios/**/*.md", recursive=True)}
+    paths = [path for it in ("*.md", "docs/**/*.md", "crates/*/*.md", "scenarios/**/*.md") for path in glob.glob(f"{root}/{it}", recursive=True)]
+    faults, pages = [], {path: pathlib.Path(path).read_text("utf-8") for path in paths}
     for page, text in sorted(pages.items()):
         for link in re.findall(r"\]\((?!https?:)([^)\s]+)\)", re.sub(r"^```.*?^```$|`[^`\n]*`", "", text, flags=re.S | re.M)):
             file, _, anchor = link.partition("#")
@@ -205,12 +211,63 @@ def lost_links(root):
     return faults
 
 
+def functions_of(folder):
+    """Yields the functions of a crate's sources: file, trait or type, name, whether it is public (None of a trait's function for a type), and its text."""
+    for path in sorted(glob.glob(f"{folder}/src/**/*.rt", recursive=True)):
+        text = pathlib.Path(path).read_text("utf-8")
+        heads = list(HEAD.finditer(text))
+        for head, end in zip(heads, [it.start() for it in heads[1:]] + [len(text)]):
+            owners = OWNER.findall(text[:head.start()]) if head[1] else []
+            kind, trait, owner = owners[-1] if owners else ("", "", "")
+            is_public = None if trait else bool(head[2]) or kind == "pub trait"
+            owner = re.sub(r": [^<>,]+", "", f"{trait} for {owner}" if trait else owner)
+            yield os.path.relpath(path, folder), owner, head[3], is_public, text[head.start():end]
+
+
+def edits_of(folder):
+    """Returns the must-fail edits of a crate: the function, what is wrong, and in which file which text becomes which."""
+    found = []
+    for path in sorted(glob.glob(f"{folder}/must-fail/*.edit")):
+        pairs, file = [], ""
+        for word, _, text in (line.partition(":") for line in pathlib.Path(path).read_text("utf-8").splitlines()):
+            file = text.strip() if word == "file" else file
+            pairs += [[file, text.strip()]] if word == "old" else []
+            pairs[-1:] = [[*pairs[-1], text.strip()]] if word == "new" else pairs[-1:]
+        found.append((*os.path.basename(path).removesuffix(".edit").split(".", 1), pairs))
+    return found
+
+
+def edit_row(what, pairs):
+    """Returns the line of a must-fail edit."""
+    return f"- `{what}`: {'; '.join(f'in `{file}` `` {old} `` becomes `` {new} ``' for file, old, new in pairs)}"
+
+
+def page_rows(root, name):
+    """Returns the page of a crate: what its root file says, its functions that are public or have edits, and the other edits."""
+    folder, every = f"{root}/crates/{name}", list(functions_of(f"{root}/crates/{name}"))
+    head = re.match(r"((?://!.*\n)+)", root_file(root, name))[1]
+    rows, left = [f"# {name}", "", *(line[4:] for line in head.splitlines()), "", "## Functions"], edits_of(folder)
+    for file, owner, function, is_public, text in every:
+        is_only = [it[0::2][:2] for it in every].count((file, function)) == 1
+        mine = [it for it in left if it[0] == function and any(path == file and (is_only or old in text) for path, old, _ in it[2])]
+        left = [it for it in left if it not in mine]
+        names = {kind: [f"`{clause}`" if clause else "one without a name" for word, clause in CLAUSE.findall(text) if word == kind] for kind in ("requires", "ensures")}
+        if is_public or mine or is_public is None and any(names.values()):
+            rows += ["", f"### `{function}`{f' of `{owner}`' if owner else ''}, `{file}`{', not public' if is_public is False else ''}", ""]
+            rows += [f"- {kind}: {', '.join(clauses)}" for kind, clauses in names.items() if clauses] + [edit_row(what, pairs) for _, what, pairs in mine]
+    return rows + ["", "## Edits of definitions and constants", ""] + [edit_row(f"{function}.{what}", pairs) for function, what, pairs in left]
+
+
 def computed(root):
     """Each document's path, the word that its comments have, and what should stand between them."""
     return [("docs/MAP.md", "crates", map_rows(root)), ("docs/MODEL.md", "road", road_rows(root)), ("docs/PROVED.md", "proved", proved_rows(root))]
 
 
 def main(*words):
+    if words[:1] == ("--page",) and len(words) == 2:
+        is_there = os.path.isdir(f"{TOP}/crates/{words[1]}/src")
+        print("\n".join(page_rows(TOP, words[1])) if is_there else f"documents: crates/ has no {words[1]}")
+        return 0 if is_there else 1
     faults = lost_steps(TOP) + lost_links(TOP) + claim_faults(TOP)
     for path, word, rows in computed(TOP):
         text = pathlib.Path(TOP, path).read_text("utf-8")

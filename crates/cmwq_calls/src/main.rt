@@ -1,4 +1,4 @@
-//! The program `cmwq_calls`, for the gate. It makes the library call that its one word names, prints
+//! The program `cmwq_calls`, for the gate. It makes the library call that its one word names. It prints
 //! the result and what the caller holds before and after, and repeats the call if it ran out of memory.
 //! The text of a scenario comes from standard input. `gate/refused_calls.py` refuses each call's 1st,
 //! 2nd, .. allocation, and compares the output with that of a run with enough memory. If an allocation

@@ -1,5 +1,5 @@
-//! Tests of what no clause says and no transcript shows: the lock under load, callers in threads,
-//! checkpoints, and worked examples of copies, lists, timers and the lock.
+//! Tests of what no clause says and no transcript shows. They try the lock under load, callers in threads
+//! and checkpoints, and have worked examples of copies, lists, timers and the lock.
 //!
 //! Proved: nothing. It has tests.
 #![tactic(auto)]
