@@ -67,7 +67,8 @@ def change_bytes(rng, content, odd=ODD_BYTES):
 def shapes():
     """The words of an instruction's line, by its first word, as docs/FORMATS.md has them: W for a work, N for a number, .."""
     block = user_files.text_of("docs/FORMATS.md").partition("### Instructions\n")[2].partition("```text\n")[2].partition("```")[0]
-    found = {line.split()[0]: line.split()[1:] for line in re.findall(r"[a-z_]+(?: [A-Z]\b)*", block)}
+    forms = [form for line in block.splitlines() for form in line.partition("  ")[0].split(", ")]
+    found = {form.split()[0]: form.split()[1:] for form in forms}
     assert found.keys() <= set(VOCABULARY) and len(found) >= 18
     return found
 
