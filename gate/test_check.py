@@ -18,7 +18,7 @@ loader.exec_module(check)
 FILES = {
     "crates.txt": "low: thiserror\nhigh: low\nside:\n",
     "gate/edits.sums": "",
-    "crates/low/src/lib.rt": "fn low() {}\n",
+    "crates/low/src/lib.rt": 'fn low() { say("a // b", \'"\') }\n',
     "crates/low/specs/Lib.antt": "pub mod Low\n",
     "crates/low/must-fail/low_is_high.edit": "file: src/lib.rt\nold: low\nnew: high\n",
     "crates/high/src/lib.rt": "fn high() {}\n",
@@ -81,10 +81,14 @@ LOW = FILES["crates/low/must-fail/low_is_high.edit"]
 for path, text, want in [
     ("docs/GATE.md", "words\n", ([], [])),
     ("crates/low/specs/Lib.antt", "pub mod Lou\n", (["low"], ["high"])),
-    ("crates/low/src/lib.rt", "fn low()  {}\n", (["low"], ["high"])),
+    ("crates/low/src/lib.rt", "fn lower() {}\n", (["low"], ["high"])),
     ("crates/low/proofs/Lib.antt", "\n", (["low"], ["high"])),
+    ("crates/low/src/lib.rt", '//! What it is.\nfn low()\n{ say("a // b", \'"\') } // and why\n', ([], [])),
+    ("crates/low/src/lib.rt", 'fn low() { say("a //  b", \'"\') }\n', (["low"], ["high"])),
+    ("crates/low/src/lib.rt", 'fn low() { say("a // b", \' \') }\n', (["low"], ["high"])),
+    ("crates/low/specs/Lib.antt", "-- what it has\npub mod  Low -- and why\n", ([], [])),
     ("crates/low/must-fail/low_is_high.edit", LOW + "\n", (["low"], [])),
-    ("crates/high/src/lib.rt", "fn high()  {}\n", (["high"], [])),
+    ("crates/high/src/lib.rt", "fn higher() {}\n", (["high"], [])),
     ("crates/high/must-fail/high_is_side.edit", LOW, (["high"], [])),
     ("crates.txt", "low: thiserror clap\nhigh: low\nside:\n", (["low"], ["high"])),
     ("crates.txt", "low: thiserror\nhigh: low thiserror\nside:\n", (["high"], [])),
@@ -95,23 +99,23 @@ assert changed("docs/GATE.md", "words\n", "another kit") == (["high", "low", "si
 with tempfile.TemporaryDirectory() as room:
     made(room)
     check.Edits(room, "another kit").write(["low", "side"])
-    write(room, "crates/high/src/lib.rt", "fn high()  {}\n")
+    write(room, "crates/high/src/lib.rt", "fn higher() {}\n")
     check.Edits(room, "another kit").write(["high"])
     assert check.Edits(room, "another kit").plan("00")[1:3] == ([], [])
     assert check.Edits(room, "a kit").plan("00")[1:3] == (["high"], []), "the sums of another kit are kept as far as they hold"
 
 with tempfile.TemporaryDirectory() as room:
     made(room)
-    write(room, "crates/low/src/lib.rt", "fn low()  {}\n")
+    write(room, "crates/low/src/lib.rt", "fn lower() {}\n")
     check.Edits(room, "a kit").write(["low"])
     assert check.Edits(room, "a kit").plan("00")[1:3] == ([], ["high"]), "what waits goes on waiting"
-    write(room, "crates/high/src/lib.rt", "fn high()  {}\n")
+    write(room, "crates/high/src/lib.rt", "fn higher() {}\n")
     assert check.Edits(room, "a kit").plan("00")[1:3] == (["high"], []), "and is tried once it changes"
     check.Edits(room, "a kit").write(["high"])
-    write(room, "crates/side/src/lib.rt", "fn side()  {}\n")
+    write(room, "crates/side/src/lib.rt", "fn sides() {}\n")
     write(room, "crates.txt", "low:\nhigh: low\nside: low\n")
     check.Edits(room, "a kit").write(["side", "low"])
-    write(room, "crates/low/src/lib.rt", "fn low() { }\n")
+    write(room, "crates/low/src/lib.rt", "fn lowest() {}\n")
     orders = [check.Edits(room, "a kit").plan(commit)[2] for commit in ("0", "1", "2")]
     assert orders == [["high", "side"], ["side", "high"], ["high", "side"]], "which of those that wait comes first goes by the commit's hash"
 
@@ -147,7 +151,7 @@ check.os.sched_getaffinity = lambda _: {0}
 check.bodies.stamps_of = lambda root, names: {}
 with tempfile.TemporaryDirectory() as room:
     made(room)
-    write(room, "crates/low/src/lib.rt", "fn low()  {}\n")
+    write(room, "crates/low/src/lib.rt", "fn lower() {}\n")
     assert check.Edits(room, "a kit").plan("00") == ([], ["low"], ["high"], ["side"]), "changed crates, then waiting ones, then one more"
     said, left = tried(room, 1)
     assert left == ["high", "side"] and said == "check: leaves the bodies of ['high', 'side'] to the next run, which tries them first\n"
