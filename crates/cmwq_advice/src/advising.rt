@@ -1,6 +1,6 @@
 //! What follows the line that tells a fault.
 ghost use Rattle.cmwq_advice.specs.Advice.{IsAdvice, IsOnText, file_made, file_read, trouble_lines, wants_text};
-ghost use Rattle.std.specs.Prelude.{◌≡◌, ◌↔◌, IfOk, IsTrue, option_map};
+ghost use Rattle.std.specs.Prelude.{◌≡◌, IfOk, option_map};
 
 use crate::on_scenario::on_scenario;
 use crate::plain::plain_words;

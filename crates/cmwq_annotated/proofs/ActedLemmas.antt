@@ -1,13 +1,13 @@
 -- The scenario with one actor who gives certain instructions.
-use Rattle.std.proofs.Common.{◌≡◌, ℕ, ◌+◌, ◌*◌, ◌≤◌, Bool, true, false, ◌&&◌, List, [], ◌∷◌, ◌++◌, map, length, leb, ltb, Option, Some, None, arith, refl, sym, ap, ◌∙◌, subst, append-nil, length-append, get_or}
+use Rattle.std.proofs.Common.{◌≡◌, ℕ, ◌+◌, ◌≤◌, Bool, true, false, ◌&&◌, List, [], ◌∷◌, ◌++◌, map, length, leb, ltb, Option, Some, None, arith, refl, ap, ◌∙◌}
 use Rattle.std.proofs.lemmas.Bool.Decides.{nat_tests}
 use Rattle.std.proofs.lemmas.List.{length-map}
 use Rattle.std.proofs.lemmas.List.Elements.{recursion_from_All}
 use Rattle.std.specs.List.{All, AllByRecursion, list_any}
 use Rattle.std.specs.Prelude.{IsTrue}
 use Rattle.std.specs.Str.{bytes_eq}
-use Rattle.cmwq_types.specs.Contents.{ActorContents, ScenarioContents, WorkContents}
-use Rattle.cmwq_types.specs.Faults.{IsValid, actor_fault, body_fault, counts_fault, fault_if, fault_unless, first_along, first_fault, is_body, is_declared, line_fault, names_declared, numbers_fault, op_fault, or_else, queue_fault, within, work_fault}
+use Rattle.cmwq_types.specs.Contents.{ScenarioContents, WorkContents}
+use Rattle.cmwq_types.specs.Faults.{IsValid, actor_fault, counts_fault, fault_if, fault_unless, first_along, is_body, is_declared, line_fault, names_declared, numbers_fault, op_fault, or_else, queue_fault, work_fault}
 use Rattle.cmwq_types.specs.Fields.{fields_of, shape_of, word_of}
 use Rattle.cmwq_types.specs.Scenario.{expand_lines}
 use Rattle.cmwq_types.specs.declared.check.Fault.{Fault}
@@ -15,7 +15,7 @@ use Rattle.cmwq_types.specs.declared.check.Fault.TheVariants as fault
 use Rattle.cmwq_types.specs.declared.fields.Shape.{Shape}
 use Rattle.cmwq_types.specs.declared.fields.Shape.TheVariants as shape
 use Rattle.cmwq_types.specs.declared.instr.Instr.{Instr}
-use Rattle.cmwq_types.specs.declared.limits.TheConstants.{MAX_ACTORS, MAX_LINES, MAX_OPS, MAX_QUEUES, MAX_TIMES, MAX_WORKS}
+use Rattle.cmwq_types.specs.declared.limits.TheConstants.{MAX_ACTORS, MAX_LINES, MAX_OPS, MAX_QUEUES, MAX_WORKS}
 use Rattle.cmwq_types.specs.declared.scenario.Line.{Line}
 use Rattle.cmwq_types.specs.declared.scenario.Op.{Op}
 use Rattle.cmwq_types.specs.declared.scenario.Op.TheVariants as op
@@ -57,13 +57,8 @@ same_along judge again same before (x ∷ xs) =
 
 module _ (S : ScenarioContents) (name : List ℕ) (instrs : List Instr) where
   same_op : (o : Op) → op_fault (acted S name instrs) o ≡ op_fault S o
-  same_op (op.Burn ticks) = refl
-  same_op (op.Sleep ticks) = refl
   same_op (op.Queue work cpu) = refl
-  same_op op.Finish = refl
-  same_op (op.Delay work ticks) = refl
-  same_op (op.Mod work ticks) = refl
-  same_op (op.Cancel work) = refl
+  same_op _ = refl
 
   same_work : (before : List WorkContents) (work : WorkContents) → work_fault (acted S name instrs) before work ≡ work_fault S before work
   same_work before work =

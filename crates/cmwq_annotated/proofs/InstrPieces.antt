@@ -1,12 +1,11 @@
 -- The words of an instruction have no line feed, ASCII alone, and few bytes.
-use Rattle.std.proofs.Common.{◌≡◌, ℕ, zero, suc, ◌+◌, ◌^◌, ◌<◌, ◌≤◌, List, [], ◌∷◌, ◌++◌, get_or, codes, arith, refl}
-use Rattle.std.specs.Fmt.{decimal}
+use Rattle.std.proofs.Common.{ℕ, zero, suc, ◌+◌, List, [], ◌∷◌, ◌++◌, get_or, codes, arith, refl}
 use Rattle.std.specs.List.{AllByRecursion, join_with_byte}
 use Rattle.cmwq_types.specs.Contents.{ScenarioContents, WorkContents}
 use Rattle.cmwq_types.specs.Fields.{fields_of, shape_of, word_of}
 use Rattle.cmwq_types.specs.Listing.{instr_words, operand_words}
 use Rattle.cmwq_types.specs.Mnemonics.{spelling}
-use Rattle.cmwq_types.specs.Scenario.{plain_flags, queue_at, work_at}
+use Rattle.cmwq_types.specs.Scenario.{plain_flags}
 use Rattle.cmwq_types.specs.Values.{AreFields, IsInstr, IsQueueDecl, IsWorkDecl}
 use Rattle.cmwq_types.specs.declared.fields.Fields.{Fields}
 use Rattle.cmwq_types.specs.declared.fields.Shape.{Shape}

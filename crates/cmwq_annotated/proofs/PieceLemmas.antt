@@ -1,5 +1,5 @@
 -- The parts of a reply's line: each has no line feed, ASCII alone, and few bytes.
-use Rattle.std.proofs.Common.{◌≡◌, ℕ, zero, suc, ◌+◌, ◌*◌, ◌^◌, ◌<◌, ◌≤◌, Bool, true, false, not, ◌&&◌, List, [], ◌∷◌, ◌++◌, length, get_or, eqb, leb, Option, Some, None, arith, refl, ◌∙◌, length-append, codes, if◌then◌else◌}
+use Rattle.std.proofs.Common.{◌≡◌, ℕ, zero, suc, ◌+◌, ◌^◌, ◌<◌, ◌≤◌, Bool, true, false, not, ◌&&◌, List, [], ◌∷◌, ◌++◌, length, get_or, eqb, leb, Option, Some, None, arith, refl, ◌∙◌, length-append, codes, if◌then◌else◌}
 use Rattle.std.proofs.lemmas.Bool.Decides.{nat_tests}
 use Rattle.std.proofs.lemmas.Fmt.{digits_decimal, length-decimal-le}
 use Rattle.std.proofs.lemmas.List.Folds.{list_all-append}
@@ -12,7 +12,6 @@ use Rattle.std.specs.Str.{all_ascii_digits}
 use Rattle.std.specs.Str.Parse.{digits_value}
 use Rattle.cmwq_types.specs.Contents.{ScenarioContents, WorkContents}
 use Rattle.cmwq_types.specs.Name.{is_lowercase, is_name, is_name_byte}
-use Rattle.cmwq_types.specs.Scenario.{work_at}
 use Rattle.cmwq_types.specs.Values.{IsWorkDecl}
 use Rattle.cmwq_types.specs.declared.instr.Instr.{Instr}
 use Rattle.cmwq_types.specs.declared.instr.Instr.TheVariants as instr
@@ -22,16 +21,20 @@ use Rattle.cmwq_types.specs.declared.reply.Mode.TheVariants.{Runnable, Asleep}
 use Rattle.cmwq_types.specs.declared.reply.Place.{Place}
 use Rattle.cmwq_types.specs.declared.reply.Place.TheVariants.{Timer, Inactive, Listed, Deferred}
 use Rattle.cmwq_types.specs.declared.reply.WorkRun.{WorkRun}
-use Rattle.cmwq_types.specs.declared.reply.Event.{Event}
-use Rattle.cmwq_types.specs.declared.reply.Event.TheVariants as event
+use Rattle.cmwq_types.specs.EventParts.{object_of, ticks_of, verb_of, verb_text}
+use Rattle.cmwq_types.specs.declared.event_parts.Object.{Object}
+use Rattle.cmwq_types.specs.declared.event_parts.Outcome.{Outcome}
+use Rattle.cmwq_types.specs.declared.event_parts.Outcome.TheVariants.{Queued, Modified, Cancelled, Disabled}
+use Rattle.cmwq_types.specs.declared.event_parts.Verb.{Verb}
+use Rattle.cmwq_types.specs.declared.event_parts.Verb.TheVariants as verbs
 use Rattle.cmwq_types.specs.declared.reply.Refusal.{Refusal}
 use Rattle.cmwq_types.specs.declared.reply.Refusal.TheVariants as refusal
 use Rattle.cmwq_types.specs.declared.reply.Reply.{Reply}
 use Rattle.cmwq_types.specs.declared.reply.Reply.TheVariants as reply
 use Rattle.cmwq_table.specs.Counts.{is_rescuer}
-use Rattle.cmwq_table.specs.Events.{already_text, asked_name, changed_text, event_line_at, event_object, event_text, event_verb, found_text, mode_text, place_text, refusal_text, reply_words, run_text, was_text, work_name, worker_number, worker_text}
+use Rattle.cmwq_table.specs.Events.{already_text, asked_name, changed_text, found_text, mode_text, operand_text, outcome_text, place_text, refusal_text, reply_words, run_text, was_text, work_name, worker_number, worker_text}
 use Rattle.cmwq_annotated.specs.Notes.{Piece, is_plain}
-use Rattle.cmwq_annotated.specs.ReplyNumbers.{IsEvent, IsNumberedPlace, IsReply, IsNumberedRun, IsTime}
+use Rattle.cmwq_annotated.specs.ReplyNumbers.{AreTicks, IsNumberedPlace, IsReply, IsNumberedRun, IsTime}
 
 abbrev pub is_ascii : ℕ → Bool
 is_ascii b = nat_lt b 128
@@ -149,23 +152,9 @@ already_piece : (already : Bool) → Piece 8 (already_text already)
 already_piece true = literal 8 (codes " already") refl refl
 already_piece false = literal 8 [] refl refl
 
-verb_piece : (event : Event) → Piece 20 (event_verb event)
-verb_piece event.Starts = literal 20 (codes "starts") refl refl
-verb_piece event.StartsOnRescuer = literal 20 (codes "starts on rescuer") refl refl
-verb_piece (event.Burns ticks) = literal 20 (codes "burns") refl refl
-verb_piece (event.Sleeps ticks) = literal 20 (codes "sleeps") refl refl
-verb_piece event.Wakes = literal 20 (codes "wakes") refl refl
-verb_piece event.Finishes = literal 20 (codes "finishes") refl refl
-verb_piece event.FinishesAndStarts = literal 20 (codes "finishes and starts") refl refl
-verb_piece event.Defers = literal 20 (codes "defers") refl refl
-verb_piece event.Fires = literal 20 (codes "fires") refl refl
-verb_piece (event.Queues other already) = literal 20 (codes "queues") refl refl
-verb_piece (event.QueuesDisabled other) = literal 20 (codes "queues") refl refl
-verb_piece (event.Delays other ticks already) = literal 20 (codes "delays") refl refl
-verb_piece (event.DelaysDisabled other ticks) = literal 20 (codes "delays") refl refl
-verb_piece (event.Mods other ticks changed) = literal 20 (codes "mods") refl refl
-verb_piece (event.ModsDisabled other ticks) = literal 20 (codes "mods") refl refl
-verb_piece (event.Cancels other was) = literal 20 (codes "cancels") refl refl
+verb_piece : (verb : Verb) → Piece 20 (verb_text verb)
+verb_piece verbs.Starts = literal 20 _ refl refl
+verb_piece _ = literal 20 _ refl refl
 
 changed_piece : (changed : Bool) → Piece 8 (changed_text changed)
 changed_piece true = literal 8 (codes " changed") refl refl
@@ -181,30 +170,17 @@ timed_piece : (S : ScenarioContents) (other : WorkId) (ticks : ℕ) → AllByRec
 timed_piece S other ticks are is =
     joint (joint (joint (literal 1 (codes " ") refl refl) (work_piece S other are)) (literal 1 (codes " ") refl refl)) (number ticks is)
 
-object_piece : (S : ScenarioContents) (event : Event) → AllByRecursion IsWorkDecl S.works → IsEvent event → Piece 50 (event_object S event)
-object_piece S (event.Burns ticks) are is = within 50 (joint (literal 1 (codes " ") refl refl) (number ticks is)) refl
-object_piece S (event.Sleeps ticks) are is = within 50 (joint (literal 1 (codes " ") refl refl) (number ticks is)) refl
-object_piece S (event.Queues other already) are is =
-    within 50 (joint (joint (literal 1 (codes " ") refl refl) (work_piece S other are)) (already_piece already)) refl
-object_piece S (event.QueuesDisabled other) are is =
-    within 50 (joint (joint (literal 1 (codes " ") refl refl) (work_piece S other are)) (literal 9 (codes " disabled") refl refl)) refl
-object_piece S event.Starts are is = literal 50 [] refl refl
-object_piece S event.StartsOnRescuer are is = literal 50 [] refl refl
-object_piece S event.Wakes are is = literal 50 [] refl refl
-object_piece S event.Finishes are is = literal 50 [] refl refl
-object_piece S event.FinishesAndStarts are is = literal 50 [] refl refl
-object_piece S event.Defers are is = literal 50 [] refl refl
-object_piece S event.Fires are is = literal 50 [] refl refl
-object_piece S (event.Delays other ticks already) are is =
-    within 50 (joint (timed_piece S other ticks are is) (already_piece already)) refl
-object_piece S (event.DelaysDisabled other ticks) are is =
-    within 50 (joint (timed_piece S other ticks are is) (literal 9 (codes " disabled") refl refl)) refl
-object_piece S (event.Mods other ticks changed) are is =
-    within 50 (joint (timed_piece S other ticks are is) (changed_piece changed)) refl
-object_piece S (event.ModsDisabled other ticks) are is =
-    within 50 (joint (timed_piece S other ticks are is) (literal 9 (codes " disabled") refl refl)) refl
-object_piece S (event.Cancels other was) are is =
-    within 50 (joint (joint (literal 1 (codes " ") refl refl) (work_piece S other are)) (found_piece was)) refl
+outcome_piece : (outcome : Outcome) → Piece 13 (outcome_text outcome)
+outcome_piece (Queued already) = within 13 (already_piece already) refl
+outcome_piece (Modified changed) = within 13 (changed_piece changed) refl
+outcome_piece (Cancelled was) = within 13 (found_piece was) refl
+outcome_piece Disabled = literal 13 (codes " disabled") refl refl
+
+operand_piece : (S : ScenarioContents) (ticks : Option ℕ) (object : Option Object) → AllByRecursion IsWorkDecl S.works → AreTicks ticks → Piece 50 (operand_text S ticks object)
+operand_piece S None None are is = literal 50 [] refl refl
+operand_piece S (Some ticks) None are is = within 50 (joint (literal 1 (codes " ") refl refl) (number ticks is)) refl
+operand_piece S None (Some o) are is = within 50 (joint (joint (literal 1 (codes " ") refl refl) (work_piece S o.work are)) (outcome_piece o.outcome)) refl
+operand_piece S (Some ticks) (Some o) are is = within 50 (joint (timed_piece S o.work ticks are is) (outcome_piece o.outcome)) refl
 
 refusal_piece : (why : Refusal) → Piece 20 (refusal_text why)
 refusal_piece refusal.NoSuchWork = literal 20 (codes "NoSuchWork") refl refl
@@ -244,7 +220,7 @@ words_piece S asked reply.No are is = literal 200 (codes "no") refl refl
 words_piece S asked (reply.Found state) are is =
     within 200 (joint (joint (joint (joint (asked_piece S asked are) (literal 1 (codes " ") refl refl)) (place_piece state.place is.0)) (literal 1 (codes " ") refl refl)) (run_piece state.run is.1)) refl
 words_piece S asked (reply.Event work event) are is =
-    within 200 (joint (joint (work_piece S work are) (literal 1 (codes " ") refl refl)) (joint (verb_piece event) (object_piece S event are is))) refl
+    within 200 (joint (joint (work_piece S work are) (literal 1 (codes " ") refl refl)) (joint (verb_piece (verb_of event)) (operand_piece S (ticks_of event) (object_of event) are is))) refl
 words_piece S asked (reply.Refused why) are is = within 200 (joint (literal 8 (codes "refused ") refl refl) (refusal_piece why)) refl
 
 -- the line of a time and words, but for its line feed

@@ -1,7 +1,7 @@
 -- The numbers in a reply are below 2^64.
 use Rattle.std.specs.Prelude.{ℕ, ◌<◌, ◌^◌, Option, Some, None}
+use Rattle.cmwq_types.specs.EventParts.{ticks_of}
 use Rattle.cmwq_types.specs.declared.reply.Event.{Event}
-use Rattle.cmwq_types.specs.declared.reply.Event.TheVariants as event
 use Rattle.cmwq_types.specs.declared.reply.Mode.{Mode}
 use Rattle.cmwq_types.specs.declared.reply.Mode.TheVariants.{Runnable, Asleep}
 use Rattle.cmwq_types.specs.declared.reply.Place.{Place}
@@ -25,23 +25,12 @@ abbrev pub IsNumberedRun : Option WorkRun → Type 0
 IsNumberedRun None = Unit {0}
 IsNumberedRun (Some run) = (run.pool < 2 ^ 64) × (run.worker < 2 ^ 64) × IsTime run.mode
 
+abbrev pub AreTicks : Option ℕ → Type 0
+AreTicks (Some ticks) = ticks < 2 ^ 64
+AreTicks None = Unit {0}
+
 abbrev pub IsEvent : Event → Type 0
-IsEvent (event.Burns ticks) = ticks < 2 ^ 64
-IsEvent (event.Sleeps ticks) = ticks < 2 ^ 64
-IsEvent event.Starts = Unit {0}
-IsEvent event.StartsOnRescuer = Unit {0}
-IsEvent event.Wakes = Unit {0}
-IsEvent event.Finishes = Unit {0}
-IsEvent event.FinishesAndStarts = Unit {0}
-IsEvent event.Defers = Unit {0}
-IsEvent event.Fires = Unit {0}
-IsEvent (event.Queues other already) = Unit {0}
-IsEvent (event.QueuesDisabled other) = Unit {0}
-IsEvent (event.Delays other ticks already) = ticks < 2 ^ 64
-IsEvent (event.DelaysDisabled other ticks) = ticks < 2 ^ 64
-IsEvent (event.Mods other ticks changed) = ticks < 2 ^ 64
-IsEvent (event.ModsDisabled other ticks) = ticks < 2 ^ 64
-IsEvent (event.Cancels other was) = Unit {0}
+IsEvent event = AreTicks (ticks_of event)
 
 abbrev pub IsReply : Reply → Type 0
 IsReply (reply.Sync was flush) = flush < 2 ^ 64

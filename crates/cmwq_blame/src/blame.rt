@@ -30,7 +30,7 @@ impl Blame {
     ghost use Rattle.cmwq_blame.specs.Blame.{are_below, blame_after, blame_ticked, no_blame, waited};
     ghost use Rattle.cmwq_blame.specs.Bounds.{IsBlameWithin};
     ghost use Rattle.cmwq_types.specs.Setting.{IsSetting};
-    ghost use Rattle.std.specs.Prelude.{◌≡◌, ◌^◌, IfOk, true};
+    ghost use Rattle.std.specs.Prelude.{◌≡◌, ◌^◌, IfOk};
 
     /// The counts of a run of the scenario before its first instruction: a row a work, with a count for nobody and one for each work. The
     /// only error is want of memory; later nothing takes any.

@@ -12,7 +12,7 @@ ghost use Rattle.cmwq_play.specs.Commands.{Answers};
 ghost use Rattle.cmwq_play.specs.PlayTexts.{IsOutput, IsRunFault, IsTextFault};
 ghost use Rattle.cmwq_request.specs.Request.{IsAskedBy, IsCapacity, IsMisusedBy, IsVersionWord, IsWithin};
 ghost use Rattle.cmwq_streams.specs.Sending.{IsSendError};
-ghost use Rattle.std.specs.Prelude.{◌≡◌, ◌∷◌, [], List, IfErr, IfOk, IfSome, None, OnOk, Some, false, length, map, string_bytes, ℕ};
+ghost use Rattle.std.specs.Prelude.{◌≡◌, ◌∷◌, [], List, IfErr, IfOk, IfSome, None, OnOk, Some, false, length, map, string_bytes};
 
 use crate::exploring::explore_file;
 use crate::file_store::FileStore;

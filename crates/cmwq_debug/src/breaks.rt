@@ -1,7 +1,6 @@
 //! Breaks: which instructions they match, and which of several is said.
-ghost use Rattle.cmwq_debug.specs.Breaks.{break_at, free, is_activation, is_kind, is_listed_from, matches, matches_seen, said_by, seen, tells, watched};
-ghost use Rattle.cmwq_table.specs.Events.{is_refusal};
-ghost use Rattle.std.specs.Prelude.{◌≡◌, ◌<◌, ◌≤◌, IfSome, length, map};
+ghost use Rattle.cmwq_debug.specs.Breaks.{free, is_activation, is_kind, is_listed_from, matches, matches_seen, said_by, seen, tells, watched};
+ghost use Rattle.std.specs.Prelude.{◌≡◌, ◌<◌, IfSome, length, map};
 
 use crate::command::EventKind;
 use cmwq_table::{Pending, Reads};

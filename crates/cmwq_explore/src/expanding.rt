@@ -1,10 +1,8 @@
 //! What each choice of a state leads to, added to what was seen.
 ghost use Rattle.cmwq_explore.specs.Plans.{IsLed};
 ghost use Rattle.cmwq_explore.specs.Searching.{HasNext, IsFull, IsMarked, IsReady, Progress, knows};
-ghost use Rattle.cmwq_stored.specs.Stored.{stored_of};
 ghost use Rattle.cmwq_explore.specs.Waiting.{AreWaiting};
-ghost use Rattle.cmwq_orders.specs.Orders.{Explored, taken};
-ghost use Rattle.cmwq_orders.specs.Sizes.{IsWhole};
+ghost use Rattle.cmwq_orders.specs.Orders.{taken};
 ghost use Rattle.cmwq_orders.specs.declared.choice.Choice.TheVariants as choice;
 ghost use Rattle.cmwq_types.specs.Scenario.{pool_count};
 ghost use Rattle.cmwq_types.specs.declared.instr.Instr.TheVariants as instr;

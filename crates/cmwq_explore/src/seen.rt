@@ -2,7 +2,7 @@
 ghost use Rattle.cmwq_explore.specs.Searching.{Entry, is_counted, knows};
 ghost use Rattle.cmwq_stored.specs.Stored.{StoredContents};
 ghost use Rattle.cmwq_explore.specs.declared.seen.Mark.{Mark};
-ghost use Rattle.std.specs.Prelude.{◌≡◌, ◌++◌, ◌∷◌, ◌≤◌, ◌<◌, ◌^◌, [], IfOk, MatchOption, OnErr, OnOk, Some, count_by, false, if◌then◌else◌, length, slice_get};
+ghost use Rattle.std.specs.Prelude.{◌≡◌, ◌++◌, ◌∷◌, ◌≤◌, ◌<◌, ◌^◌, [], MatchOption, OnErr, OnOk, Some, count_by, false, if◌then◌else◌, length, slice_get};
 
 use cmwq_orders::Choice;
 use cmwq_stored::Stored;

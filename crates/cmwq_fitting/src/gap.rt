@@ -1,8 +1,8 @@
 //! A place of a line, and whether a word fits there.
-ghost use Rattle.cmwq_fitting.specs.Fitting.{fits, line_goes_on, has_bad_flags, is_bad_flags, lacks_word, is_over, may_end, text_fault, with_word};
+ghost use Rattle.cmwq_fitting.specs.Fitting.{fits, line_goes_on, has_bad_flags, is_bad_flags, lacks_word, may_end, text_fault};
 ghost use Rattle.cmwq_grammar.specs.Meaning.{fault_at};
 ghost use Rattle.std.specs.Fmt.{decimal};
-ghost use Rattle.std.specs.Prelude.{◌≡◌, ◌≤◌, IfOk, option_map};
+ghost use Rattle.std.specs.Prelude.{◌≡◌, IfOk, option_map};
 
 use crate::faults::{TextFault, text_fault};
 use cmwq_grammar::Why;

@@ -1,5 +1,5 @@
 //! Which numbers fit a place.
-ghost use Rattle.cmwq_fitting.specs.NumberLimits.{AreLimits, IsLimits, number_fits};
+ghost use Rattle.cmwq_fitting.specs.NumberLimits.{IsLimits, number_fits};
 ghost use Rattle.std.specs.Prelude.{◌≡◌, ◌≤◌, ◌<◌, ◌+◌, IfOk, false, true};
 
 use crate::gap::Gap;

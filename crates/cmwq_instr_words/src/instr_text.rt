@@ -1,7 +1,7 @@
 //! An instruction in the words of the listing.
 ghost use Rattle.cmwq_types.specs.Listing.{instr_words, operand_words};
 ghost use Rattle.std.specs.List.{flat_map, join_with_byte};
-ghost use Rattle.std.specs.Prelude.{◌≡◌, ◌∷◌, Some};
+ghost use Rattle.std.specs.Prelude.{◌∷◌, Some};
 
 use cmwq_types::{Fields, Instr, Scenario, Shape, fields_of, shape_of, word_of};
 use std::fmt;

@@ -1,6 +1,6 @@
 //! What is kept of an instance of a work: since when it is there, and where its time went.
 
-ghost use Rattle.cmwq_ledger.specs.Ledger.{all_ticks, new_account, no_ticks, one_tick_more, queued_ticks, ticked};
+ghost use Rattle.cmwq_ledger.specs.Ledger.{all_ticks, new_account, one_tick_more, queued_ticks, ticked};
 ghost use Rattle.std.specs.Prelude.{◌≡◌, ◌+◌, ◌-◌, ◌<◌, ◌^◌};
 
 use cmwq_picture::Sign;

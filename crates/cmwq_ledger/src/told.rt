@@ -1,9 +1,9 @@
 //! What replies tell of instances that end and begin to run.
-ghost use Rattle.cmwq_table.specs.Told.{cancelled_by, finished_by, is_end, is_start, started_by, taken_off_in, tells_taken_off, work_to_take_off};
+ghost use Rattle.cmwq_table.specs.Told.{cancelled_by, finished_by, has_taken_off, is_end, is_start, started_by, taken_off_in, tells_taken_off, work_to_take_off};
 ghost use Rattle.cmwq_ledger.specs.Totals.{is_rescue, rescued_by};
 ghost use Rattle.std.specs.Prelude.{◌≡◌};
 
-use cmwq_types::{Event, Instr, Reply};
+use cmwq_types::{Event, Instr, Outcome, Reply};
 
 /// The work whose running half ends.
 pub(crate) fn finished_by(reply: Reply) -> Option<u16>
@@ -50,14 +50,20 @@ pub(crate) fn cancelled_by(instr: Instr, reply: Reply) -> Option<u16>
 fn taken_off_in(event: Event) -> Option<u16>
     ensures { result ≡ taken_off_in event }
 {
-    match event {
-        Event::Mods {
-            other,
-            changed: true,
-            ..
-        }
-        | Event::Cancels { other, was: true } => Some(other.0),
+    match event.object() {
+        Some(object) if has_taken_off(object.outcome) => Some(object.work.0),
         _ => None,
+    }
+}
+
+/// Returns whether the operation took its work item off.
+fn has_taken_off(outcome: Outcome) -> bool
+    ensures { result ≡ has_taken_off outcome }
+{
+    match outcome {
+        Outcome::Modified { changed } => changed,
+        Outcome::Cancelled { was } => was,
+        _ => false,
     }
 }
 

@@ -5,7 +5,7 @@ ghost use Rattle.cmwq_ledger.specs.Ledger.{all_ticks, queued_ticks};
 ghost use Rattle.cmwq_ledger.specs.Totals.{as_long_as, at_queue, for_work, idle_counted, instances_counted, lines_counted, most_counted, one_more_at};
 ghost use Rattle.cmwq_ledger.specs.declared.times_line.TimesLine.{TimesLine};
 ghost use Rattle.cmwq_types.specs.Scenario.{queue_of};
-ghost use Rattle.std.specs.Prelude.{◌≡◌, ◌+◌, ◌-◌, ◌<◌, ◌^◌, Some, length, slice_get, ℕ};
+ghost use Rattle.std.specs.Prelude.{◌≡◌, ◌+◌, ◌-◌, ◌<◌, ◌^◌, Some, length, ℕ};
 
 use crate::active::{count_active, most_active};
 use crate::queue_totals::{Count, QueueTotals};
@@ -45,7 +45,7 @@ impl Totals {
     ghost use Rattle.cmwq_ledger.specs.Totals.{burner_counted_if, burners_counted, totals_begun, totals_ended, totals_moved, totals_ticked, with_idle};
     ghost use Rattle.cmwq_ledger.specs.declared.times_line.TimesLine.{TimesLine};
     ghost use Rattle.cmwq_types.specs.Scenario.{pool_count};
-    ghost use Rattle.std.specs.Prelude.{◌*◌, ◌<◌, ◌≤◌, IfOk, IfSome, Some, length, option_to_list, slice_get};
+    ghost use Rattle.std.specs.Prelude.{◌*◌, ◌<◌, ◌≤◌, IfOk, IfSome, Some, length, option_to_list};
     ghost use Rattle.cmwq_types.specs.Setting.{IsSetting};
 
     /// Nothing is counted yet.

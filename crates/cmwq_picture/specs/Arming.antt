@@ -1,16 +1,18 @@
 -- Who sets timers: in the tick in which a work's body sets one, the row of the work that is on it shows whose body that was.
-use Rattle.std.specs.Prelude.{ℕ, Bool, false, not, ◌&&◌, List, [], ◌∷◌, Option, Some, None, if◌then◌else◌, nat_lt, ◌==◌}
+use Rattle.std.specs.Prelude.{ℕ, Bool, false, ◌&&◌, List, [], ◌∷◌, Option, Some, None, if◌then◌else◌, nat_lt, ◌==◌}
 use Rattle.std.specs.List.{cons_option, filter}
 use Rattle.cmwq_types.specs.Contents.{ScenarioContents}
+use Rattle.cmwq_types.specs.EventParts.{object_of, ticks_of}
+use Rattle.cmwq_types.specs.declared.event_parts.Object.{Object}
 use Rattle.cmwq_types.specs.declared.instr.Instr.{Instr}
 use Rattle.cmwq_types.specs.declared.instr.WorkId.{WorkId}
 use Rattle.cmwq_types.specs.declared.reply.Event.{Event}
-use Rattle.cmwq_types.specs.declared.reply.Event.TheVariants as event
 use Rattle.cmwq_types.specs.declared.reply.Reply.{Reply}
 use Rattle.cmwq_types.specs.declared.reply.Reply.TheVariants as reply
 use Rattle.cmwq_table.specs.Counts.{or_else}
 use Rattle.cmwq_table.specs.State.{State, pending_at}
 use Rattle.cmwq_table.specs.Table.{table}
+use Rattle.cmwq_table.specs.Told.{has_queued}
 use Rattle.cmwq_table.specs.declared.state.Pending.{Pending}
 use Rattle.cmwq_picture.specs.declared.arming.Arming.{Arming}
 use Rattle.cmwq_picture.specs.declared.cell.Cell.{Cell}
@@ -18,10 +20,12 @@ use Rattle.cmwq_picture.specs.declared.cell.Cell.TheVariants.{Does, Armed}
 use Rattle.cmwq_picture.specs.declared.cell.Sign.TheVariants as sign
 
 -- the work whose timer the event of a body sets: after no ticks it is placed at once
+abbrev pub armed_object : Option ℕ → Option Object → Option WorkId
+armed_object (Some ticks) (Some o) = if nat_lt 0 ticks && has_queued o.outcome then Some o.work else None
+armed_object ticks object = None
+
 abbrev pub armed_work : Event → Option WorkId
-armed_work (event.Delays other ticks already) = if nat_lt 0 ticks && not already then Some other else None
-armed_work (event.Mods other ticks changed) = if nat_lt 0 ticks then Some other else None
-armed_work other = None
+armed_work event = armed_object (ticks_of event) (object_of event)
 
 -- a body set the timer at this time for the instance that is pending then
 abbrev pub arming_for : ℕ → WorkId → WorkId → Option Pending → Option Arming

@@ -1,10 +1,11 @@
 //! Who sets timers: which work's body did, for which instance, and when.
 ghost use Rattle.cmwq_picture.specs.Arming.{armed_work, armer, arming_for, is_for, marked, new_arming};
+ghost use Rattle.cmwq_table.specs.Told.{has_queued};
 ghost use Rattle.std.specs.Prelude.{◌≡◌};
 
 use crate::cell::{Cell, Sign};
 use cmwq_table::{Pending, Reads};
-use cmwq_types::{Event, Reply, WorkId};
+use cmwq_types::{Event, Outcome, Reply, WorkId};
 
 /// A work's body set a timer.
 #[derive(Clone, Copy)]
@@ -36,14 +37,22 @@ pub(crate) fn new_arming<R: Reads>(time: u64, machine: &R, reply: Reply) -> Opti
 fn armed_work(event: Event) -> Option<WorkId>
     ensures { result ≡ armed_work event }
 {
-    match event {
-        Event::Delays {
-            other,
-            ticks,
-            already,
-        } if ticks > 0 && !already => Some(other),
-        Event::Mods { other, ticks, .. } if ticks > 0 => Some(other),
+    match (event.ticks(), event.object()) {
+        (Some(ticks), Some(object)) if ticks > 0 && has_queued(object.outcome) => {
+            Some(object.work)
+        }
         _ => None,
+    }
+}
+
+/// Returns whether the operation queued its work item.
+fn has_queued(outcome: Outcome) -> bool
+    ensures { result ≡ has_queued outcome }
+{
+    match outcome {
+        Outcome::Queued { already } => !already,
+        Outcome::Modified { .. } => true,
+        _ => false,
     }
 }
 

@@ -1,7 +1,7 @@
 //! How the rows of a picture are named.
 ghost use Rattle.cmwq_render.specs.Labels.{label, lettered, longest};
 ghost use Rattle.cmwq_render.specs.Letters.{letter_before, letter_shown};
-ghost use Rattle.std.specs.Prelude.{◌≡◌, ◌++◌, IfOk, OnOk, Some, length, max};
+ghost use Rattle.std.specs.Prelude.{◌≡◌, ◌++◌, IfOk, OnOk, Some, max};
 
 use crate::letters::letter_shown;
 use cmwq_picture::{Row, Title};

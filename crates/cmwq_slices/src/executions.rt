@@ -1,7 +1,6 @@
 //! Executions of instances: those that are open along a run, and those that have ended.
 ghost use Rattle.cmwq_table.specs.Told.{is_end, is_start};
 ghost use Rattle.cmwq_slices.specs.Executions.{event_execution, execution_begun, execution_ended, execution_to, executions_after, executions_to, no_executions};
-ghost use Rattle.cmwq_table.specs.State.{running_at};
 ghost use Rattle.cmwq_types.specs.declared.limits.TheConstants.{MAX_WORKS};
 ghost use Rattle.std.specs.Prelude.{◌≡◌, ◌≤◌, ◌++◌, IfOk, OnOk, if◌then◌else◌, length, slice_index_or, slice_set};
 

@@ -3,17 +3,16 @@ use Rattle.std.proofs.Common.{◌≡◌, ℕ, zero, suc, ◌≤◌, Bool, true, 
 use Rattle.std.proofs.lemmas.Bool.Decides.{nat_tests}
 use Rattle.std.proofs.lemmas.List.{length-set}
 use Rattle.std.specs.List.{list_any}
-use Rattle.std.specs.Prelude.{slice_get, slice_index_or, slice_set}
+use Rattle.std.specs.Prelude.{slice_index_or, slice_set}
 use Rattle.std.specs.Str.{bytes_eq}
 use Rattle.cmwq_types.specs.Contents.{ActorContents, ScenarioContents, WorkContents}
-use Rattle.cmwq_types.specs.Faults.{IsValid, actor_fault, body_fault, counts_fault, fault_if, fault_unless, first_along, fits_flags, is_declared, line_fault, names_declared, numbers_fault, or_else, queue_fault, within, work_fault}
+use Rattle.cmwq_types.specs.Faults.{IsValid, actor_fault, body_fault, counts_fault, fault_if, fault_unless, first_along, fits_flags, is_declared, line_fault, numbers_fault, or_else, queue_fault, within, work_fault}
 use Rattle.cmwq_types.specs.Fields.{fields_of, shape_of, word_of}
 use Rattle.cmwq_types.specs.Scenario.{flags_at, queue_at}
 use Rattle.cmwq_types.specs.declared.check.Fault.{Fault}
 use Rattle.cmwq_types.specs.declared.check.Fault.TheVariants as fault
 use Rattle.cmwq_types.specs.declared.fields.Shape.{Shape}
 use Rattle.cmwq_types.specs.declared.fields.Shape.TheVariants as shape
-use Rattle.cmwq_types.specs.declared.instr.Instr.{Instr}
 use Rattle.cmwq_types.specs.declared.limits.TheConstants.{MAX_ACTORS, MAX_LINES, MAX_MAX_ACTIVE, MAX_QUEUES, MAX_TIMES, MAX_WORKS}
 use Rattle.cmwq_types.specs.declared.scenario.Line.{Line}
 use Rattle.cmwq_types.specs.declared.scenario.QueueDecl.{QueueDecl}

@@ -21,8 +21,12 @@ use Rattle.cmwq_types.specs.declared.instr.QueueId.{QueueId}
 use Rattle.cmwq_types.specs.declared.instr.WorkId.{WorkId}
 use Rattle.cmwq_types.specs.declared.mnemonic.Mnemonic.{Mnemonic}
 use Rattle.cmwq_types.specs.declared.mnemonic.Mnemonic.TheVariants as mnemonic
-use Rattle.cmwq_types.specs.declared.reply.Event.{Event}
-use Rattle.cmwq_types.specs.declared.reply.Event.TheVariants as event
+use Rattle.cmwq_types.specs.EventParts.{object_of, ticks_of, verb_of, verb_text}
+use Rattle.cmwq_types.specs.declared.event_parts.Object.{Object}
+use Rattle.cmwq_types.specs.declared.event_parts.Outcome.{Outcome}
+use Rattle.cmwq_types.specs.declared.event_parts.Outcome.TheVariants.{Queued, Modified, Cancelled, Disabled}
+use Rattle.cmwq_types.specs.declared.event_parts.Verb.{Verb}
+use Rattle.cmwq_types.specs.declared.event_parts.Verb.TheVariants as verbs
 use Rattle.cmwq_types.specs.declared.reply.Mode.{Mode}
 use Rattle.cmwq_types.specs.declared.reply.Mode.TheVariants.{Runnable, Asleep}
 use Rattle.cmwq_types.specs.declared.reply.Place.{Place}
@@ -34,7 +38,7 @@ use Rattle.cmwq_types.specs.declared.reply.Reply.TheVariants as reply
 use Rattle.cmwq_types.specs.declared.reply.WorkRun.{WorkRun}
 use Rattle.cmwq_types.specs.declared.scenario.QueueDecl.{QueueDecl}
 use Rattle.cmwq_table.specs.Counts.{is_rescuer}
-use Rattle.cmwq_table.specs.Events.{already_text, asked_name, event_object, event_verb, mode_text, place_text, refusal_text, reply_words, run_text, was_text, work_name, worker_text, changed_text, found_text, timed_object}
+use Rattle.cmwq_table.specs.Events.{already_text, asked_name, mode_text, operand_text, outcome_text, place_text, refusal_text, reply_words, run_text, was_text, work_name, worker_text, changed_text, found_text, timed_object}
 use Rattle.cmwq_tell.specs.declared.change.Change.{Change}
 use Rattle.cmwq_tell.specs.declared.change.Change.TheVariants as change
 use Rattle.cmwq_tell.specs.Hidden.{change_text, timer_cpu_text}
@@ -204,41 +208,21 @@ module _ (S : ScenarioContents) (scenario : IsScenario S) where
   timed-no_feed other ticks outcome clear =
       joint (joint (joint (joint (literal (codes " ") refl) (work other)) (literal (codes " ") refl)) (number ticks)) clear
 
-  verb-no_feed : (e : Event) → NoFeed (event_verb e)
-  verb-no_feed event.Starts = literal (codes "starts") refl
-  verb-no_feed event.StartsOnRescuer = literal (codes "starts on rescuer") refl
-  verb-no_feed (event.Burns ticks) = literal (codes "burns") refl
-  verb-no_feed (event.Sleeps ticks) = literal (codes "sleeps") refl
-  verb-no_feed event.Wakes = literal (codes "wakes") refl
-  verb-no_feed event.Finishes = literal (codes "finishes") refl
-  verb-no_feed event.FinishesAndStarts = literal (codes "finishes and starts") refl
-  verb-no_feed event.Defers = literal (codes "defers") refl
-  verb-no_feed event.Fires = literal (codes "fires") refl
-  verb-no_feed (event.Queues other already) = literal (codes "queues") refl
-  verb-no_feed (event.QueuesDisabled other) = literal (codes "queues") refl
-  verb-no_feed (event.Delays other ticks already) = literal (codes "delays") refl
-  verb-no_feed (event.DelaysDisabled other ticks) = literal (codes "delays") refl
-  verb-no_feed (event.Mods other ticks changed) = literal (codes "mods") refl
-  verb-no_feed (event.ModsDisabled other ticks) = literal (codes "mods") refl
-  verb-no_feed (event.Cancels other was) = literal (codes "cancels") refl
+  verb-no_feed : (v : Verb) → NoFeed (verb_text v)
+  verb-no_feed verbs.Starts = literal _ refl
+  verb-no_feed _ = literal _ refl
 
-  object-no_feed : (e : Event) → NoFeed (event_object S e)
-  object-no_feed (event.Burns ticks) = joint (literal (codes " ") refl) (number ticks)
-  object-no_feed (event.Sleeps ticks) = joint (literal (codes " ") refl) (number ticks)
-  object-no_feed (event.Queues other already) = joint (joint (literal (codes " ") refl) (work other)) (already-no_feed already)
-  object-no_feed (event.QueuesDisabled other) = joint (joint (literal (codes " ") refl) (work other)) (literal (codes " disabled") refl)
-  object-no_feed (event.Delays other ticks already) = timed-no_feed other ticks (already_text already) (already-no_feed already)
-  object-no_feed (event.DelaysDisabled other ticks) = timed-no_feed other ticks (codes " disabled") (literal (codes " disabled") refl)
-  object-no_feed (event.Mods other ticks changed) = timed-no_feed other ticks (changed_text changed) (changed-no_feed changed)
-  object-no_feed (event.ModsDisabled other ticks) = timed-no_feed other ticks (codes " disabled") (literal (codes " disabled") refl)
-  object-no_feed (event.Cancels other was) = joint (joint (literal (codes " ") refl) (work other)) (found-no_feed was)
-  object-no_feed event.Starts = literal [] refl
-  object-no_feed event.StartsOnRescuer = literal [] refl
-  object-no_feed event.Wakes = literal [] refl
-  object-no_feed event.Finishes = literal [] refl
-  object-no_feed event.FinishesAndStarts = literal [] refl
-  object-no_feed event.Defers = literal [] refl
-  object-no_feed event.Fires = literal [] refl
+  outcome-no_feed : (o : Outcome) → NoFeed (outcome_text o)
+  outcome-no_feed (Queued already) = already-no_feed already
+  outcome-no_feed (Modified changed) = changed-no_feed changed
+  outcome-no_feed (Cancelled was) = found-no_feed was
+  outcome-no_feed Disabled = literal (codes " disabled") refl
+
+  operand-no_feed : (ticks : Option ℕ) (object : Option Object) → NoFeed (operand_text S ticks object)
+  operand-no_feed None None = literal [] refl
+  operand-no_feed (Some ticks) None = joint (literal (codes " ") refl) (number ticks)
+  operand-no_feed None (Some o) = joint (joint (literal (codes " ") refl) (work o.work)) (outcome-no_feed o.outcome)
+  operand-no_feed (Some ticks) (Some o) = timed-no_feed o.work ticks (outcome_text o.outcome) (outcome-no_feed o.outcome)
 
   refusal-no_feed : (why : Refusal) → NoFeed (refusal_text why)
   refusal-no_feed refusal.NoSuchWork = literal (codes "NoSuchWork") refl
@@ -281,7 +265,7 @@ module _ (S : ScenarioContents) (scenario : IsScenario S) where
   reply-no_feed asked reply.No = literal (codes "no") refl
   reply-no_feed asked (reply.Found state) =
       joint (joint (joint (joint (asked-no_feed asked) (literal (codes " ") refl)) (place-no_feed state.place)) (literal (codes " ") refl)) (run-no_feed state.run)
-  reply-no_feed asked (reply.Event w e) = joint (joint (work w) (literal (codes " ") refl)) (joint (verb-no_feed e) (object-no_feed e))
+  reply-no_feed asked (reply.Event w e) = joint (joint (work w) (literal (codes " ") refl)) (joint (verb-no_feed (verb_of e)) (operand-no_feed (ticks_of e) (object_of e)))
   reply-no_feed asked (reply.Refused why) = joint (literal (codes "refused ") refl) (refusal-no_feed why)
 
   -- Changes.

@@ -2,7 +2,11 @@
 use Rattle.std.specs.Prelude.{ℕ, ◌/◌, Bool, true, false, List, [], ◌∷◌, ◌++◌, codes, length, Option, Some, None, if◌then◌else◌}
 use Rattle.std.specs.Fmt.{decimal}
 use Rattle.cmwq_types.specs.Contents.{ScenarioContents}
+use Rattle.cmwq_types.specs.EventParts.{object_of, ticks_of}
 use Rattle.cmwq_types.specs.Scenario.{is_unbound, queue_at, queue_of}
+use Rattle.cmwq_types.specs.declared.event_parts.Object.{Object}
+use Rattle.cmwq_types.specs.declared.event_parts.Outcome.{Outcome}
+use Rattle.cmwq_types.specs.declared.event_parts.Outcome.TheVariants.{Queued, Modified, Cancelled, Disabled}
 use Rattle.cmwq_types.specs.declared.instr.Instr.{Instr}
 use Rattle.cmwq_types.specs.declared.instr.WorkId.{WorkId}
 use Rattle.cmwq_types.specs.declared.reply.Event.{Event}
@@ -107,18 +111,22 @@ ticks_field ticks = number_field (codes "ticks") ticks
 abbrev pub timed_fields : ScenarioContents → WorkId → ℕ → List ℕ → List ℕ
 timed_fields S other ticks outcome = text_field (codes "other") (work_name S other) ++ (ticks_field ticks ++ outcome)
 
--- how long, or which work, and what came of it
+-- the outcome of an operation on a work item
+abbrev pub outcome_field : Outcome → List ℕ
+outcome_field (Queued already) = already_field already
+outcome_field (Modified changed) = changed_field changed
+outcome_field (Cancelled was) = found_field was
+outcome_field Disabled = true_field (codes "disabled")
+
+-- how many ticks, or which work item with the outcome, or both
+abbrev pub operand_fields : ScenarioContents → Option ℕ → Option Object → List ℕ
+operand_fields S None None = []
+operand_fields S (Some ticks) None = ticks_field ticks
+operand_fields S None (Some o) = text_field (codes "other") (work_name S o.work) ++ outcome_field o.outcome
+operand_fields S (Some ticks) (Some o) = timed_fields S o.work ticks (outcome_field o.outcome)
+
 abbrev pub object_fields : ScenarioContents → Event → List ℕ
-object_fields S (event.Burns ticks) = ticks_field ticks
-object_fields S (event.Sleeps ticks) = ticks_field ticks
-object_fields S (event.Queues other already) = text_field (codes "other") (work_name S other) ++ already_field already
-object_fields S (event.QueuesDisabled other) = text_field (codes "other") (work_name S other) ++ true_field (codes "disabled")
-object_fields S (event.Delays other ticks already) = timed_fields S other ticks (already_field already)
-object_fields S (event.DelaysDisabled other ticks) = timed_fields S other ticks (true_field (codes "disabled"))
-object_fields S (event.Mods other ticks changed) = timed_fields S other ticks (changed_field changed)
-object_fields S (event.ModsDisabled other ticks) = timed_fields S other ticks (true_field (codes "disabled"))
-object_fields S (event.Cancels other was) = text_field (codes "other") (work_name S other) ++ found_field was
-object_fields S other = []
+object_fields S event = operand_fields S (ticks_of event) (object_of event)
 
 abbrev pub reply_fields : ScenarioContents → Instr → Reply → Option Seat → List ℕ
 reply_fields S asked reply.Queued seat = []

@@ -1,12 +1,12 @@
 //! The fields of an object, and its line.
-ghost use Rattle.cmwq_trace.specs.Lines.{already_field, changed_field, cpu_field, found_field, object_fields, object_line, reply_fields, seat_fields, ticks_field, timed_fields, work_fields, worker_field};
-ghost use Rattle.cmwq_table.specs.Events.{asked_name, event_verb, was_text};
+ghost use Rattle.cmwq_trace.specs.Lines.{already_field, changed_field, cpu_field, found_field, object_fields, object_line, outcome_field, reply_fields, seat_fields, ticks_field, timed_fields, work_fields, worker_field};
+ghost use Rattle.cmwq_table.specs.Events.{asked_name, was_text};
 ghost use Rattle.cmwq_types.specs.Scenario.{is_unbound};
 ghost use Rattle.std.specs.Prelude.{◌≡◌, Some};
 
 use crate::seat::Seat;
 use cmwq_table::{PlaceWords, RunWords, is_silent, refusal_name};
-use cmwq_types::{Event, Instr, RESCUER, Reply, Scenario, WorkId};
+use cmwq_types::{Event, Instr, Outcome, RESCUER, Reply, Scenario, WorkId};
 use std::fmt;
 
 /// The object of a reply at a time, on a line, or nothing where the run prints no line.
@@ -75,7 +75,7 @@ impl fmt::Display for ReplyFields<'_> {
             }
             Reply::Event { work, event } => {
                 let scenario = self.scenario;
-                let verb = event_verb(event);
+                let verb = event.verb().as_str();
                 let work = WorkFields { scenario, work };
                 let seat = SeatFields {
                     scenario,
@@ -188,65 +188,39 @@ impl fmt::Display for ObjectFields<'_> {
     ghost output = { λ fields. Some (object_fields fields.scenario.now fields.event) };
 
     fn fmt<W: fmt::Write>(&self, f: &mut fmt::Formatter<W>) -> fmt::Result {
-        match self.event {
-            Event::Burns(ticks) | Event::Sleeps(ticks) => {
+        match (self.event.ticks(), self.event.object()) {
+            (None, None) => Ok(()),
+            (Some(ticks), None) => {
                 let ticks = TicksField(ticks);
                 write!(f, "{ticks}")
             }
-            Event::Queues { other, already } => {
-                let other = self.scenario.work_name(other.0 as usize);
-                let already = already_field(already);
-                write!(f, ",\"other\":\"{other}\"{already}")
+            (None, Some(object)) => {
+                let other = self.scenario.work_name(object.work.0 as usize);
+                let outcome = outcome_field(object.outcome);
+                write!(f, ",\"other\":\"{other}\"{outcome}")
             }
-            Event::QueuesDisabled { other } => {
-                let other = self.scenario.work_name(other.0 as usize);
-                write!(f, ",\"other\":\"{other}\",\"disabled\":true")
-            }
-            Event::Delays {
-                other,
-                ticks,
-                already,
-            } => {
-                let outcome = already_field(already);
+            (Some(ticks), Some(object)) => {
                 let timed = TimedFields {
                     scenario: self.scenario,
-                    other,
+                    other: object.work,
                     ticks,
-                    outcome,
+                    outcome: outcome_field(object.outcome),
                 };
                 write!(f, "{timed}")
             }
-            Event::Mods {
-                other,
-                ticks,
-                changed,
-            } => {
-                let outcome = changed_field(changed);
-                let timed = TimedFields {
-                    scenario: self.scenario,
-                    other,
-                    ticks,
-                    outcome,
-                };
-                write!(f, "{timed}")
-            }
-            Event::DelaysDisabled { other, ticks } | Event::ModsDisabled { other, ticks } => {
-                let outcome = ",\"disabled\":true";
-                let timed = TimedFields {
-                    scenario: self.scenario,
-                    other,
-                    ticks,
-                    outcome,
-                };
-                write!(f, "{timed}")
-            }
-            Event::Cancels { other, was } => {
-                let other = self.scenario.work_name(other.0 as usize);
-                let found = found_field(was);
-                write!(f, ",\"other\":\"{other}\"{found}")
-            }
-            _ => Ok(()),
         }
+    }
+}
+
+/// Returns the field of an outcome, after a comma, or nothing.
+fn outcome_field(outcome: Outcome) -> &'static str
+    ensures { result.now ≡ outcome_field outcome }
+{
+    match outcome {
+        Outcome::Queued { already } => already_field(already),
+        Outcome::Modified { changed } => changed_field(changed),
+        Outcome::Cancelled { was } => found_field(was),
+        Outcome::Disabled => ",\"disabled\":true",
     }
 }
 
@@ -302,27 +276,6 @@ fn found_field(was: bool) -> &'static str
     ensures { result.now ≡ found_field was }
 {
     if was { "" } else { ",\"not_pending\":true" }
-}
-
-/// What an event's line says that its work does.
-fn event_verb(event: Event) -> &'static str
-    ensures { result.now ≡ event_verb event }
-{
-    match event {
-        Event::Starts => "starts",
-        Event::Burns(_) => "burns",
-        Event::Sleeps(_) => "sleeps",
-        Event::Wakes => "wakes",
-        Event::Finishes => "finishes",
-        Event::FinishesAndStarts => "finishes and starts",
-        Event::Defers => "defers",
-        Event::Fires => "fires",
-        Event::Queues { .. } | Event::QueuesDisabled { .. } => "queues",
-        Event::StartsOnRescuer => "starts on rescuer",
-        Event::Delays { .. } | Event::DelaysDisabled { .. } => "delays",
-        Event::Mods { .. } | Event::ModsDisabled { .. } => "mods",
-        Event::Cancels { .. } => "cancels",
-    }
 }
 
 /// Whether the work was taken off.

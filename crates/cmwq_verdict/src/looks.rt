@@ -1,8 +1,7 @@
 //! How a verdict looks.
-ghost use Rattle.cmwq_grammar.specs.Cutting.{lines_of};
 ghost use Rattle.cmwq_grammar.specs.Meaning.{fault_at};
 ghost use Rattle.cmwq_verdict.specs.Looks.{pointed, pointer, why_words};
-ghost use Rattle.std.specs.Prelude.{◌≡◌, ◌++◌, ◌∷◌, OnOk, codes, take};
+ghost use Rattle.std.specs.Prelude.{◌≡◌, ◌++◌, ◌∷◌, OnOk, codes};
 
 use crate::places::{line_start, rest_from};
 use crate::reason_names::why_name;
