@@ -302,9 +302,7 @@ fn optional<'a>(alloc: Global, id: &'a str) -> Arg<'a>
 fn flag<'a>(alloc: Global, name: &'a str) -> Arg<'a>
     ensures { IsArgument (flag_rule name.entry.now) result }
 {
-    Arg::new(alloc, name)
-        .long(name)
-        .action(ArgAction::SetTrue)
+    Arg::new(alloc, name).long(name).action(ArgAction::SetTrue)
 }
 
 /// Returns the option that continues a run until its machine is quiet.

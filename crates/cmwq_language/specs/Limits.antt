@@ -29,15 +29,15 @@ before limited.Steps = codes "\n  steps N: the most instructions that are accept
 before limited.Flushes = codes "\n  flushes N: how many flushes can be given, 0 to "
 before limited.MaxActive = codes "\n  queue NAME max N FLAG..: a queue and its max_active, 1 to "
 before limited.Queues = codes "; queues are at most "
-before limited.Works = codes "\n  work NAME QUEUE: a work of a declared queue; works are at most "
-before limited.Operations = codes "\n  body NAME: what the next work does, in the order of declaration: its operations, at most "
-before limited.Lines = codes "\n  actor NAME: who asks for what: its instructions, in lines of at most "
+before limited.Works = codes "\n  work NAME QUEUE: a work item of a declared queue; work items are at most "
+before limited.Operations = codes "\n  body NAME: begins the body of the next work item; its operations are at most "
+before limited.Lines = codes "\n  actor NAME: begins a caller; its lines are at most "
 before limited.Actors = codes "; actors are at most "
 before limited.Burn = codes "  burn N: keeps the CPU for N ticks, 1 to "
 before limited.Sleep = codes "\n  sleep N: sleeps for N ticks, 1 to "
-before limited.Delay = codes "\n  queue WORK CPU: queues a work on a CPU, from 0 on, unless it is pending\n  delay WORK N: queues it on this body's CPU in N ticks, unless it is pending, 0 to "
-before limited.Mod = codes "\n  mod WORK N: queues it so in place of what it waited for, 0 to "
-before limited.Times = codes "\n  cancel WORK: takes it off where it is pending\n  finish: ends the body\n\nInstructions of an actor; `* N` behind one has it so many times, 1 to "
+before limited.Delay = codes "\n  queue WORK CPU: queues a work item on a CPU, from 0 on, unless it is pending\n  delay WORK N: as queue, on this body's CPU in N ticks, 0 to "
+before limited.Mod = codes "\n  mod WORK N: as delay, and replaces an earlier request, 0 to "
+before limited.Times = codes "\n  cancel WORK: takes it off, if it is pending\n  finish: ends the body\n\nInstructions of an actor; `* N` after one gives it N times, 1 to "
 
 abbrev pub limited_text : Limited → List ℕ
 limited_text limited = before limited ++ decimal (limit limited)
