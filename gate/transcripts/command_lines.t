@@ -22,9 +22,9 @@ Help goes to standard output.
   $ first help
   Emulates the concurrency-managed workqueues of the Linux kernel
   $ first asm --help
-  Makes the image of a scenario
+  Usage: cmwq asm FILE OUT
   $ first help show
-  Writes the listing of an image's scenario to standard output
+  Usage: cmwq show IMAGE
 
 Without a word the help is a usage fault.
   $ first
@@ -181,7 +181,7 @@ An option that is given twice.
   2|error: --from and --to take a time in ticks
   [2]
   $ first draw --from 7 --to 3 a
-  2|error: --from takes a time that isn't behind that of --to
+  2|error: --from takes a time that isn't after that of --to
   [2]
   $ first draw --scale 5 a
   2|error: --scale and --id go with --svg
@@ -254,7 +254,7 @@ An option that is given twice.
   2|error: --after takes an ACTOR, and --never with one WORK beside it
   [2]
   $ first explore a --never b b
-  2|error: --never takes two works that differ
+  2|error: --never takes two work items that differ
   [2]
   $ first explore a --after b --never c d
   2|error: --after takes an ACTOR, and --never with one WORK beside it
@@ -278,10 +278,10 @@ An option that is given twice.
   2|error: --limit takes a number of 1 to 10 digits, from 1 to 1000000
   [2]
   $ first explore a --stuck --before b b
-  2|error: --before goes in a ring: b, b
+  2|error: --before goes in a cycle: b, b
   [2]
   $ first explore a --stuck --before b c --before d b --before c d
-  2|error: --before goes in a ring: b, c, d, b
+  2|error: --before goes in a cycle: b, c, d, b
   [2]
 
 What else is said of a usage fault.
@@ -315,7 +315,7 @@ What else is said of a usage fault.
   2|For more information, try '--help'.
   [2]
   $ cmwq explore a --stuck --before x b --before b c --before c b
-  2|error: --before goes in a ring: b, c, b
+  2|error: --before goes in a cycle: b, c, b
   2|
   2|Usage: cmwq explore [OPTIONS] <FILE>
   2|
