@@ -362,28 +362,43 @@ A word that isn't UTF-8.
 
 The help of a command.
   $ cmwq asm --help
-  Makes the image of a scenario
+  Usage: cmwq asm FILE OUT
   
-  Usage: cmwq asm <FILE> <OUT>
+  Makes the file OUT, the image of a scenario.
   
-  Arguments:
-    <FILE>  The scenario's text
-    <OUT>   The image file to make. What it held is lost, even where FILE has a fault; it can't be FILE itself
+  Example:
+    cmwq asm scenarios/max_active_3.cmwq max_active_3.image
+  
+  What OUT contained is lost, even if FILE has a fault. OUT can't be FILE itself.
   
   Options:
-    -h, --help  Print help
-  
-  Prints nothing.
+    --explain  after a fault, says what can be done about it
   
   Exit status:
     0  OUT is the scenario's image
     1  `line 6: Duplicate`: the text's first fault; OUT is empty
     2  the command line is wrong
-    3  `write`: OUT can't be made or written; `read`: FILE can't be read
+    3  `read`: FILE can't be read
+    3  `write`: OUT can't be made or written
     4  `no memory`
-  
-  Example:
-    cmwq asm scenarios/max_active_3.cmwq max_active_3.image
+
+The program alone names the commands.
+  $ cmwq
+  2|Emulates the concurrency-managed workqueues of the Linux kernel
+  2|
+  2|Usage: cmwq <COMMAND>
+  2|
+  2|Options:
+  2|  -h, --help     Print help (see more with '--help')
+  2|  -V, --version  Print version
+  2|
+  2|Look:    new, run, draw, debug
+  2|Ask:     why, explore, times, check, play
+  2|Export:  trace
+  2|Files:   settle, list, asm, show
+  2|
+  2|Begin with `cmwq new first.cmwq`. `cmwq help` says what each command is for.
+  [2]
 
 The version, and the logic that the proofs rest on; gate/test_user_files.py says which that is.
   $ cmwq --version > version

@@ -37,7 +37,7 @@ meaning word.Next = codes ": fire, else a move of the least pool that has one, e
 meaning word.Ask = codes ": prints whether flush F is done\n"
 meaning word.Busy = codes ": prints whether a freezable queue has an active work item\n"
 meaning word.State = codes ": prints its state\n"
-meaning word.Disable = codes ": takes it off, and refuses to queue it until it is enabled as often\n"
+meaning word.Disable = codes ": takes it off, and refuses to queue it until enabled as often\n"
 meaning word.Enable = codes ": takes one disable back\n"
 meaning word.Pressure = codes ": memory is short: no worker is made\n"
 meaning word.Relief = codes ": ends pressure\n"
@@ -54,7 +54,7 @@ flag_word flag.Ordered = codes "ordered"
 flag_word flag.MemReclaim = codes "mem_reclaim"
 
 abbrev pub flag_meaning : QueueFlag → List ℕ
-flag_meaning flag.Highpri = codes ": its work items use the high-priority pools, which come first on their CPU\n"
+flag_meaning flag.Highpri = codes ": its work items use high-priority pools, which come first on their CPU\n"
 flag_meaning flag.Unbound = codes ": its work items use an unbound pool; each runnable one burns there\n"
 flag_meaning flag.CpuIntensive = codes ": its work items don't keep others of their pool from starting\n"
 flag_meaning flag.Freezable = codes ": activates nothing from freeze to thaw\n"

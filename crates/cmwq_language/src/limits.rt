@@ -82,14 +82,14 @@ impl Limited {
             Limited::Workers => "\n  workers N: the most workers of a pool, 1 to ",
             Limited::Steps => "\n  steps N: the most instructions that are accepted, 1 to ",
             Limited::Flushes => "\n  flushes N: how many flushes can be given, 0 to ",
-            Limited::MaxActive => "\n  queue NAME max N FLAG..: a queue and its max_active, 1 to ",
+            Limited::MaxActive => "\n  queue NAME max N FLAG..: its max_active is N, 1 to ",
             Limited::Queues => "; queues are at most ",
             Limited::Works =>
                 "\n  work NAME QUEUE: a work item of a declared queue; work items are at most ",
             Limited::Operations => {
-                "\n  body NAME: begins the body of the next work item; its operations are at most "
+                "\n  body NAME: begins the body of the next work item; operations are at most "
             }
-            Limited::Lines => "\n  actor NAME: begins a caller; its lines are at most ",
+            Limited::Lines => "\n  actor NAME: begins a caller; lines are at most ",
             Limited::Actors => "; actors are at most ",
             Limited::Burn => "  burn N: keeps the CPU for N ticks, 1 to ",
             Limited::Sleep => "\n  sleep N: sleeps for N ticks, 1 to ",

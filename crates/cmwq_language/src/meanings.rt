@@ -46,7 +46,7 @@ impl QueueFlag {
     {
         match self {
             QueueFlag::Highpri =>
-                ": its work items use the high-priority pools, which come first on their CPU\n",
+                ": its work items use high-priority pools, which come first on their CPU\n",
             QueueFlag::Unbound => {
                 ": its work items use an unbound pool; each runnable one burns there\n"
             }
@@ -100,8 +100,7 @@ pub(crate) fn meaning(word: Mnemonic) -> &'static str
         Mnemonic::Ask => ": prints whether flush F is done\n",
         Mnemonic::Busy => ": prints whether a freezable queue has an active work item\n",
         Mnemonic::State => ": prints its state\n",
-        Mnemonic::Disable =>
-            ": takes it off, and refuses to queue it until it is enabled as often\n",
+        Mnemonic::Disable => ": takes it off, and refuses to queue it until enabled as often\n",
         Mnemonic::Enable => ": takes one disable back\n",
         Mnemonic::Pressure => ": memory is short: no worker is made\n",
         Mnemonic::Relief => ": ends pressure\n",

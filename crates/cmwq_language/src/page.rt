@@ -27,9 +27,9 @@ const INSTRUCTIONS_FOLLOW: &str = ":\n";
 
 /// Comes after the instructions.
 const AT_THE_END: &str = "
-After cancel_sync a work item can queue itself again. A kernel's cancel_work_sync
-prevents that, and so do disable WORK, flush WORK and enable WORK together.
-docs/FORMATS.md has every word, and scenarios/ has examples.
+After cancel_sync a work item can queue itself again. A kernel's
+cancel_work_sync prevents that, and so do disable WORK, flush WORK and enable
+WORK together. docs/FORMATS.md has every word, and scenarios/ has examples.
 ";
 
 /// What a scenario's text may say, on one page: its lines in their order with their limits, the flags of queues, the operations of bodies,
