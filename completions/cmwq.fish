@@ -58,52 +58,52 @@ end
 
 complete -c cmwq -n __cmwq_wants_command -f
 complete -c cmwq -n __cmwq_wants_command -a new -d 'Write a scenario to start from, with comments'
-complete -c cmwq -n __cmwq_wants_command -a run -d 'Run a scenario and write its events'
-complete -c cmwq -n __cmwq_wants_command -a settle -d "Write a scenario's listing with the next that make it quiet"
+complete -c cmwq -n __cmwq_wants_command -a run -d 'Print a line for each event of a scenario'
+complete -c cmwq -n __cmwq_wants_command -a settle -d 'Write a scenario that runs until its machine is quiet'
 complete -c cmwq -n __cmwq_wants_command -a draw -d "Draw a scenario's run"
-complete -c cmwq -n __cmwq_wants_command -a why -d 'Tell why a work or a flush waits'
-complete -c cmwq -n __cmwq_wants_command -a explore -d 'Look through all orders of the instructions of actors'
-complete -c cmwq -n __cmwq_wants_command -a times -d 'Tell where the time of each request went'
+complete -c cmwq -n __cmwq_wants_command -a why -d 'Print what a work item or a flush waits for'
+complete -c cmwq -n __cmwq_wants_command -a explore -d 'Search all interleavings of the callers for one that breaks a rule'
+complete -c cmwq -n __cmwq_wants_command -a times -d 'Print how long each request waited and ran'
 complete -c cmwq -n __cmwq_wants_command -a trace -d 'Write a run for tools that show traces'
 complete -c cmwq -n __cmwq_wants_command -a list -d "Write a scenario's listing"
 complete -c cmwq -n __cmwq_wants_command -a asm -d 'Make the image of a scenario'
 complete -c cmwq -n __cmwq_wants_command -a show -d "Write the listing of an image's scenario"
-complete -c cmwq -n __cmwq_wants_command -a debug -d "Carry out commands on a scenario's run"
-complete -c cmwq -n __cmwq_wants_command -a play -d 'Let actors issue their instructions from threads'
-complete -c cmwq -n __cmwq_wants_command -a check -d "Tell whether scenarios' texts are good, or where their first faults are"
-complete -c cmwq -n __cmwq_wants_command -a help -d 'Say what there is, or what a command does'
+complete -c cmwq -n __cmwq_wants_command -a debug -d 'Step through a run, forward and back'
+complete -c cmwq -n __cmwq_wants_command -a play -d 'Run the callers as threads'
+complete -c cmwq -n __cmwq_wants_command -a check -d "Print the first fault of each scenario's text"
+complete -c cmwq -n __cmwq_wants_command -a help -d 'Print the commands, or the help of one command'
 complete -c cmwq -n "__cmwq_is help" -f
-complete -c cmwq -n "__cmwq_is help; and __cmwq_wants_command" -a scenario -d "Say what a scenario's text may say"
+complete -c cmwq -n "__cmwq_is help; and __cmwq_wants_command" -a scenario -d 'Print what a scenario may contain'
 complete -c cmwq -n "__cmwq_is run settle draw why explore times trace list debug play check" -f
 complete -c cmwq -n "__cmwq_is run settle draw why explore times trace list asm debug play check; and __cmwq_wants_file" -k -xa "(__fish_complete_suffix .cmwq)"
 complete -c cmwq -n "__cmwq_is why; and not __cmwq_wants_file" -k -xa "(__cmwq_names work)" -d work
-complete -c cmwq -n "__cmwq_is run draw why debug" -l settle -d 'Go on until the machine is quiet'
-complete -c cmwq -n "__cmwq_is run" -l tell -d 'Write instructions and unseen changes too'
+complete -c cmwq -n "__cmwq_is run draw why debug" -l settle -d 'Continue until the machine is quiet'
+complete -c cmwq -n "__cmwq_is run" -l tell -d 'Also print instructions, and changes without an event'
 complete -c cmwq -n "__cmwq_is run" -l strict -d 'End with status 1 if an instruction was refused'
 complete -c cmwq -n "__cmwq_is draw" -l svg -d 'Write an SVG picture'
 complete -c cmwq -n "__cmwq_is draw" -l from -x -d 'The first tick'
 complete -c cmwq -n "__cmwq_is draw" -l to -x -d 'The tick before which to end'
-complete -c cmwq -n "__cmwq_is draw" -l fold -d 'Fold gaps in which nothing changes'
-complete -c cmwq -n "__cmwq_is draw" -l works -xa "(__cmwq_work_list)" -d 'The works to draw'
-complete -c cmwq -n "__cmwq_is draw" -l scale -x -d 'Pixels a tick'
+complete -c cmwq -n "__cmwq_is draw" -l fold -d 'Fold gaps without a change'
+complete -c cmwq -n "__cmwq_is draw" -l works -xa "(__cmwq_work_list)" -d 'The work items to draw'
+complete -c cmwq -n "__cmwq_is draw" -l scale -x -d 'Pixels per tick'
 complete -c cmwq -n "__cmwq_is draw" -l id -x -d "The picture's name in a page"
-complete -c cmwq -n "__cmwq_is why" -l flush -x -d 'A flush, in place of a work'
-complete -c cmwq -n "__cmwq_is why" -l at -x -d 'Look at this position alone'
+complete -c cmwq -n "__cmwq_is why" -l flush -x -d 'A flush, instead of a work item'
+complete -c cmwq -n "__cmwq_is why" -l at -x -d 'Look only at this position'
 complete -c cmwq -n "__cmwq_is why" -l every -d 'Look at every position'
-complete -c cmwq -n "__cmwq_is why" -l time -x -d 'Look at this tick alone'
-complete -c cmwq -n "__cmwq_is explore" -l after -xa "(__cmwq_names actor)" -d 'Ask only where this actor has ended'
-complete -c cmwq -n "__cmwq_is explore" -l never -xa "(__cmwq_names work)" -d 'Ask whether this work runs, or two at once'
-complete -c cmwq -n "__cmwq_is explore" -l stuck -d 'Ask whether nothing can go on'
+complete -c cmwq -n "__cmwq_is why" -l time -x -d 'Look only at this tick'
+complete -c cmwq -n "__cmwq_is explore" -l after -xa "(__cmwq_names actor)" -d 'The rule counts only when this actor has ended'
+complete -c cmwq -n "__cmwq_is explore" -l never -xa "(__cmwq_names work)" -d 'This work item must never run, or two at the same time'
+complete -c cmwq -n "__cmwq_is explore" -l stuck -d 'Some actor must always be able to continue'
 complete -c cmwq -n "__cmwq_is explore" -l before -xa "(__cmwq_names actor)" -d 'This actor ends before the next begins'
 complete -c cmwq -n "__cmwq_is explore" -l limit -x -d 'How many states are looked at'
 complete -c cmwq -n "__cmwq_is times" -l json -d 'Write each line as a JSON object'
-complete -c cmwq -n "__cmwq_is times" -l whom -d 'Tell for whom works waited'
-complete -c cmwq -n "__cmwq_is times" -l sweep -xa "(__cmwq_names queue)" -d 'Tell what values of a max_active come to'
+complete -c cmwq -n "__cmwq_is times" -l whom -d 'Also print for whom work items waited'
+complete -c cmwq -n "__cmwq_is times" -l sweep -xa "(__cmwq_names queue)" -d 'Run once for each of these values of max_active'
 complete -c cmwq -n "__cmwq_is trace" -l json -d 'Write slices for Perfetto and chrome://tracing'
-complete -c cmwq -n "__cmwq_is trace" -l lines -d 'Write a JSON object a line for each event'
+complete -c cmwq -n "__cmwq_is trace" -l lines -d 'Write one JSON object per event'
 complete -c cmwq -n "__cmwq_is trace" -l text -d "Write events as a kernel's trace shows them"
 complete -c cmwq -n "__cmwq_is trace" -l dat -r -d 'Make a file for trace-cmd and KernelShark'
-complete -c cmwq -n "__cmwq_is play" -l capacity -x -d 'How many instructions can be issued in all'
+complete -c cmwq -n "__cmwq_is play" -l capacity -x -d 'How many instructions the machine accepts'
 complete -c cmwq -n __cmwq_wants_command -s V -l version -d 'Print version'
 complete -c cmwq -l explain -d 'Say what can be done about a fault'
 complete -c cmwq -s h -l help -d 'Print help'

@@ -475,13 +475,13 @@ class Documented:
         reasons = "|".join(sorted(self.reasons))
         fault = rf".*: read|.*:\d+:\d+: [!-~? ]{{1,80}}: (?:{reasons})"
         thing = r"(?:[a-z0-9_]+|\*|a new name|a number from \d+ to \d+|the number \d+|\d+ more)"
-        begins = r"  a line here may begin with: [a-z_]+(?:, [a-z_]+)*|  no line may stand here"
-        goes_on = rf"  here may stand: {thing}(?:, {thing})*(?:, or the line's end)?|  the line should end here"
-        meant = r"  is (?:[a-z0-9_]+|\*|\* \d+) meant\?"
+        begins = r"  a line here may begin with: [a-z_]+(?:, [a-z_]+)*|  no line may follow"
+        goes_on = rf"  expected here: {thing}(?:, {thing})*(?:, or the line's end)?|  the line should end here"
+        meant = r"  did you mean (?:[a-z0-9_]+|\*|\* \d+)\?"
         form = r"[a-z_]+(?: (?:[A-Z]+|max|FLAG\.\.|\*))*"
-        cure = r"  a comment begins with #, and ends with its line|  flags stand one after another, without WQ_ and \|: queue NAME max N FLAG FLAG"
+        cure = r"  a comment begins with #, and ends with its line|  write flags one after another, without WQ_ and \|: queue NAME max N FLAG FLAG"
         cure += rf"|  a kernel's [A-Za-z_]+ is written here: {form}|  {form}: the (?:word |number )?[A-Za-z]+ is missing"
-        cure += r"|  work ([a-z][a-z0-9_]*) has no body: body \1, its operations and finish stand before the actors"
+        cure += r"|  work ([a-z][a-z0-9_]*) has no body: body \1, its operations and finish come before the actors"
         return re.fullmatch(f"{fault}|{begins}|{goes_on}|{meant}|{cure}", line) is not None or self.is_note(line)
 
     def is_note(self, line):

@@ -542,7 +542,7 @@ trace {ONE} --lines
 trace {ONE} --text
 trace {ONE} --dat one.data
 """.split("\n")[1:-1]] + [(f"debug {ONE}", SESSION)]
-SHARED = "beside its works others start, and burn only once these sleep or are done: a CPU takes turns here, and a kernel's is shared"
+SHARED = "other work items start beside its own, but burn only after these sleep or finish; a kernel time-slices the CPU"
 Took = collections.namedtuple("Took", "seconds megabytes status errors output")
 
 

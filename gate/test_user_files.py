@@ -89,7 +89,7 @@ def terminal_faults(program):
     with tempfile.NamedTemporaryFile(suffix=".cmwq") as file:
         file.write(b"cpus 1\nworkers 65\n")
         file.flush()
-        first, last = f"{file.name}:2:9: 65: ", "\n  here may stand: a number from 1 to 64\n"
+        first, last = f"{file.name}:2:9: 65: ", "\n  expected here: a number from 1 to 64\n"
         ours, theirs = os.openpty()
         with open(ours, "rb", buffering=0) as screen:
             subprocess.run([program, "check", file.name], stderr=theirs, timeout=60)
@@ -101,11 +101,19 @@ def terminal_faults(program):
 
 
 def help_faults(program, commands):
-    """Each command's help has a status and an example, but for that of `help` itself, and `help` has a line for each."""
+    """Each command's help has its usage, an example and its statuses, in this order, except that of `help` itself. `help` has a line for each
+    command, in groups. No line has more than 80 columns, and the program alone prints few lines."""
     if not program:
         return []
-    faults = [f"{command} --help lacks {part}" for command in sorted(commands - {"help"}) for part in ("Exit status:", "\nExample") if part not in said(program, command, "--help")]
-    return faults + [f"help lacks {command}" for command in sorted(commands) if not re.search(rf"^  {command} ", said(program, "help"), re.M)]
+    pages = {command: said(program, command, "--help") for command in sorted(commands - {"help"})}
+    parts = r"Usage: cmwq {} .*?\n\n[A-Z].*?\n\nExamples?:\n  cmwq {} .*\n\nOptions:\n  --.*\n\nExit status[^\n]*:\n  0  "
+    faults = [f"{command} --help lacks a part" for command, page in pages.items() if not re.match(parts.format(command, command), page, re.S)]
+    whole, alone = said(program, "help"), said(program)
+    faults += [f"help lacks {command}" for command in sorted(commands) if not re.search(rf"^  {command} ", whole, re.M)]
+    faults += [f"help lacks the group {group}" for group in ("Look", "Ask", "Export", "Files") if f"\n{group}:\n" not in whole]
+    pages = {**pages, "help": whole, "help scenario": said(program, "help", "scenario"), "cmwq alone": alone}
+    faults += [f"{name} has a line of {len(line)} columns" for name, page in pages.items() for line in page.splitlines() if len(line) > 80]
+    return faults + ([] if len(alone.splitlines()) <= 15 else [f"cmwq alone prints {len(alone.splitlines())} lines"])
 
 
 def bash_completes(*words):

@@ -29,7 +29,7 @@ PARTS = [
 README = """cmwq {version}: Linux's concurrency-managed workqueue, emulated
 
     bin/cmwq new first.cmwq        a scenario to start from
-    bin/cmwq run first.cmwq        what happens, a line for each thing
+    bin/cmwq run first.cmwq        a line for each event
     bin/cmwq help                  all commands
 
 bin/cmwq runs on any Linux on x86-64 (x86-64-v2, since 2009); it needs no library of the system. share/man has its pages (man -l share/man/man1/cmwq.1),

@@ -23,7 +23,10 @@ MOST_WORDS_OF_A_SENTENCE, MOST_WORDS_OF_A_CELL = 25, 20
 MOST_WORDS_OF_A_PAGE = {"README.md": 1000, "CONTRIBUTING.md": 1200}
 DOCUMENTS = ["*.md", "docs/**/*.md", "crates/*/*.md", "scenarios/**/*.md", "man/*.[15]"]
 # The sources of the texts that the program prints.
-PRINTED = ["cmwq_command_line/src/help.rt", "cmwq_language/src/*.rt", "cmwq_advice/src/*.rt", "cmwq_remarks/src/noted.rt", "cmwq_remarks/src/remarked.rt", "cmwq_debug_lines/src/verb.rt"]
+PRINTED = [
+    *("cmwq_command_line/src/help.rt", "cmwq_language/src/*.rt", "cmwq_advice/src/*.rt", "cmwq_remarks/src/noted.rt", "cmwq_remarks/src/remarked.rt", "cmwq_remarks/src/traps.rt"),
+    *("cmwq_debug_lines/src/verb.rt", "cmwq_request/src/*.rt", *(f"cmwq_verdict/src/{name}.rt" for name in ("cures", "hints", "mending", "offers"))),
+]
 # What stands for a piece in code font. It is no word.
 CODE = "§"
 

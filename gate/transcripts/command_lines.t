@@ -22,9 +22,9 @@ Help goes to standard output.
   $ first help
   Emulates the concurrency-managed workqueues of the Linux kernel
   $ first asm --help
-  Makes the image of a scenario
+  Usage: cmwq asm FILE OUT
   $ first help show
-  Writes the listing of an image's scenario to standard output
+  Usage: cmwq show IMAGE
 
 Without a word the help is a usage fault.
   $ first
@@ -181,7 +181,7 @@ An option that is given twice.
   2|error: --from and --to take a time in ticks
   [2]
   $ first draw --from 7 --to 3 a
-  2|error: --from takes a time that isn't behind that of --to
+  2|error: --from takes a time that isn't after that of --to
   [2]
   $ first draw --scale 5 a
   2|error: --scale and --id go with --svg
@@ -254,7 +254,7 @@ An option that is given twice.
   2|error: --after takes an ACTOR, and --never with one WORK beside it
   [2]
   $ first explore a --never b b
-  2|error: --never takes two works that differ
+  2|error: --never takes two work items that differ
   [2]
   $ first explore a --after b --never c d
   2|error: --after takes an ACTOR, and --never with one WORK beside it
@@ -278,10 +278,10 @@ An option that is given twice.
   2|error: --limit takes a number of 1 to 10 digits, from 1 to 1000000
   [2]
   $ first explore a --stuck --before b b
-  2|error: --before goes in a ring: b, b
+  2|error: --before goes in a cycle: b, b
   [2]
   $ first explore a --stuck --before b c --before d b --before c d
-  2|error: --before goes in a ring: b, c, d, b
+  2|error: --before goes in a cycle: b, c, d, b
   [2]
 
 What else is said of a usage fault.
@@ -315,7 +315,7 @@ What else is said of a usage fault.
   2|For more information, try '--help'.
   [2]
   $ cmwq explore a --stuck --before x b --before b c --before c b
-  2|error: --before goes in a ring: b, c, b
+  2|error: --before goes in a cycle: b, c, b
   2|
   2|Usage: cmwq explore [OPTIONS] <FILE>
   2|
@@ -362,28 +362,43 @@ A word that isn't UTF-8.
 
 The help of a command.
   $ cmwq asm --help
-  Makes the image of a scenario
+  Usage: cmwq asm FILE OUT
   
-  Usage: cmwq asm <FILE> <OUT>
+  Makes the file OUT, the image of a scenario.
   
-  Arguments:
-    <FILE>  The scenario's text
-    <OUT>   The image file to make. What it held is lost, even where FILE has a fault; it can't be FILE itself
+  Example:
+    cmwq asm scenarios/max_active_3.cmwq max_active_3.image
+  
+  What OUT contained is lost, even if FILE has a fault. OUT can't be FILE itself.
   
   Options:
-    -h, --help  Print help
-  
-  Prints nothing.
+    --explain  after a fault, says what can be done about it
   
   Exit status:
     0  OUT is the scenario's image
     1  `line 6: Duplicate`: the text's first fault; OUT is empty
     2  the command line is wrong
-    3  `write`: OUT can't be made or written; `read`: FILE can't be read
+    3  `read`: FILE can't be read
+    3  `write`: OUT can't be made or written
     4  `no memory`
-  
-  Example:
-    cmwq asm scenarios/max_active_3.cmwq max_active_3.image
+
+The program alone names the commands.
+  $ cmwq
+  2|Emulates the concurrency-managed workqueues of the Linux kernel
+  2|
+  2|Usage: cmwq <COMMAND>
+  2|
+  2|Options:
+  2|  -h, --help     Print help (see more with '--help')
+  2|  -V, --version  Print version
+  2|
+  2|Look:    new, run, draw, debug
+  2|Ask:     why, explore, times, check, play
+  2|Export:  trace
+  2|Files:   settle, list, asm, show
+  2|
+  2|Begin with `cmwq new first.cmwq`. `cmwq help` says what each command is for.
+  [2]
 
 The version, and the logic that the proofs rest on; gate/test_user_files.py says which that is.
   $ cmwq --version > version

@@ -200,12 +200,12 @@ Words that are cut short, and breaks as they are listed.
   goto K: goes to position K
   break work W event E | time T | refusal | activates W: makes a break
   clear I: removes break I
-  list: tells the breaks
+  list: prints the breaks
   run: goes forward up to the first instruction that a break matches, or to the end
   next event: goes forward up to the first instruction that prints a line, or to the end
-  dump [pool P]: tells the state, or what is in pool P
-  why W | flush F: tells why work W isn't further, or what flush F waits for
-  help: tells the commands; the first word may be cut short where no other one begins so
+  dump [pool P]: prints the state, or what is in pool P
+  why W | flush F: prints what work item W or flush F waits for
+  help: prints the commands; the first word may be cut short if it begins only one command
   quit: ends the session
 
 A queue of one: the first work is listed as it is queued, the others are inactive. Then the second one goes to the other CPU, anew, where it is listed, and the first is taken off, which activates the third.

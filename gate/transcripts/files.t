@@ -186,13 +186,13 @@ A faulty image, and a text in place of an image.
   checks/a.cmwq: ok
   2|checks/none.cmwq: read
   2|checks/b.cmwq:3:10: 65: Range
-  2|  here may stand: a number from 1 to 64
+  2|  expected here: a number from 1 to 64
   2|checks/c.cmwq:2:8: end of line: MissingWord
-  2|  here may stand: a number from 1 to 64
+  2|  expected here: a number from 1 to 64
   2|  workers N: the number N is missing
   2|checks/d.cmwq:6:1: quue: BadWord
   2|  a line here may begin with: queue, work, actor
-  2|  is queue meant?
+  2|  did you mean queue?
   2|checks/e.cmwq:7:8: a: Unknown
   2|  a line here may begin with: flush_queue, set_max, freeze, thaw, fire, step, tick, next, ask, busy, pressure, relief, until, wait, quiet, actor
   2|checks/f.cmwq:5:75: fast: BadWord
@@ -208,14 +208,14 @@ A carriage return within a line is part of its word. What is said of C and of a 
   $ printf 'cpus 1\nworkers 1\nsteps 1\nflushes 0\nqueue q max_active 1\n' > checks/k.txt
   $ cmwq check checks/?.txt
   2|checks/h.txt:1:6: 1?: BadNumber
-  2|  here may stand: a number from 1 to 16
+  2|  expected here: a number from 1 to 16
   2|checks/i.txt:1:6: 1?: BadNumber
-  2|  here may stand: a number from 1 to 16
+  2|  expected here: a number from 1 to 16
   2|checks/j.txt:1:8: /*: ExtraWord
   2|  the line should end here
   2|  a comment begins with #, and ends with its line
   2|checks/k.txt:5:9: max_active: BadWord
-  2|  here may stand: max
+  2|  expected here: max
   2|  a kernel's max_active is written here: queue NAME max N FLAG..
   [1]
 
@@ -226,17 +226,17 @@ At a terminal each fault's line is shown, with a caret, and the reason is red. S
   checks/b.cmwq:3:10: 65: \x1b[1;31mRange\x1b[0m (esc)
     workers\t 65 # too many (esc)
            \t ^ (esc)
-    here may stand: a number from 1 to 64
+    expected here: a number from 1 to 64
   checks/c.cmwq:2:8: end of line: \x1b[1;31mMissingWord\x1b[0m (esc)
     workers 
            ^
-    here may stand: a number from 1 to 64
+    expected here: a number from 1 to 64
     workers N: the number N is missing
   checks/d.cmwq:6:1: quue: \x1b[1;31mBadWord\x1b[0m (esc)
     quue
     ^
     a line here may begin with: queue, work, actor
-    is queue meant?
+    did you mean queue?
   checks/e.cmwq:7:8: a: \x1b[1;31mUnknown\x1b[0m (esc)
     cancel a
            ^
@@ -255,39 +255,39 @@ At a terminal each fault's line is shown, with a caret, and the reason is red. S
 
 `new` writes a scenario to start from, and overwrites nothing.
   $ cmwq new
-  # Two works share a CPU: b starts the moment that a goes to sleep.
+  # Two work items share a CPU: b starts when a goes to sleep.
   #
-  #   cmwq run FILE         a line for each thing that happens
-  #   cmwq draw FILE        a picture of it
-  #   cmwq why FILE b       why b isn't further, wherever that changes
-  #   cmwq debug FILE       the same step by step, forwards and back
-  #   cmwq help scenario    what may stand in such a text
+  #   cmwq run FILE         prints a line for each event
+  #   cmwq draw FILE        draws a picture of it
+  #   cmwq why FILE b       prints what b waits for, each time that this changes
+  #   cmwq debug FILE       steps through it, forward and back
+  #   cmwq help scenario    prints what a scenario may contain
   #
-  # Then change it: with max 1 b waits until a has finished, though the CPU is free from 3 to 8.
+  # Then try max 1: b waits until a has finished, though the CPU is free from 3 to 8.
   
-  cpus 1           # the machine: one CPU,
-  workers 4        # at most 4 workers a pool,
-  steps 1000       # and at most 1000 instructions
+  cpus 1           # the machine has one CPU,
+  workers 4        # at most 4 workers per pool,
+  steps 1000       # and accepts at most 1000 instructions
   flushes 0
   
-  queue q max 2    # a queue of which two works can be active
+  queue q max 2    # a queue that can have two active work items
   work a q
   work b q
   
-  body a           # what a's function does:
+  body a           # what the work function of a does:
   burn 3           # it needs the CPU for 3 ticks,
-  sleep 5          # sleeps 5 without it,
-  burn 1           # and needs it for 1 more
+  sleep 5          # sleeps for 5 ticks without it,
+  burn 1           # and needs it for 1 more tick
   finish
   
   body b
   burn 4
   finish
   
-  actor me         # what is asked of the machine, in this order:
-  queue a 0        # queue both works on CPU 0,
+  actor me         # what the caller does:
+  queue a 0        # it queues both work items on CPU 0,
   queue b 0
-  quiet * 100      # and go on until no work is pending and none runs, by 100 moves and ticks at most
+  quiet * 100      # and waits until both have finished, for at most 100 moves and ticks
   $ cmwq new first.cmwq
   $ cmwq new | cmp - first.cmwq
   $ printf mine > first.cmwq

@@ -47,7 +47,7 @@ use Rattle.cmwq_advice.specs.declared.trouble.Trouble.TheVariants as trouble
 abbrev pub trouble_words : Trouble → List ℕ
 trouble_words trouble.NoFile = codes ": no such file"
 trouble_words trouble.NoFolder = codes ": no such folder"
-trouble_words trouble.IsThere = codes " is there already; new doesn't overwrite"
+trouble_words trouble.IsThere = codes " exists already; new doesn't overwrite it"
 trouble_words trouble.IsInput = codes " is the scenario's own text; asm doesn't overwrite it"
 trouble_words trouble.IsTraceInput = codes " is the scenario's own text; trace doesn't overwrite it"
 trouble_words trouble.IsFolder = codes " is a folder"
@@ -83,12 +83,12 @@ file_made request = None
 
 -- what is wrong with an image
 abbrev pub image_words : ImageError → List ℕ
-image_words images.Magic = line (codes "an image begins with CMWQ: this is none that cmwq asm made")
+image_words images.Magic = line (codes "an image begins with CMWQ; cmwq asm didn't make this file")
 image_words images.Version = line (codes "the image is of a version that this program doesn't know")
 image_words images.Truncated = line (codes "the image ends too early: a part of it is lost")
-image_words images.Extra = line (codes "bytes follow behind the image's end")
-image_words (images.BadField offset) = line (codes "at this offset, in bytes from 0, the image has what can't stand there")
-image_words (images.Fault fault) = line (codes "the image's scenario isn't one")
+image_words images.Extra = line (codes "bytes follow after the image's end")
+image_words (images.BadField offset) = line (codes "at this offset, in bytes from 0, the image has a value that isn't allowed")
+image_words (images.Fault fault) = line (codes "the image's scenario isn't valid")
 image_words images.NoMemory = []
 
 -- what there is too much of, and how much there may be
@@ -120,7 +120,7 @@ memory_words request = line (codes "a shorter run, or a picture of fewer ticks (
 -- where neither a file nor its scenario has to be looked at
 abbrev pub plain_words : Request → PlayError → List ℕ
 plain_words request errors.Full = full_words request
-plain_words request errors.NeverQuiet = line (codes "a work is still pending or runs when steps or 1048576 instructions are over: it wants more steps, a thaw or relief, or never ends")
+plain_words request errors.NeverQuiet = line (codes "a work item is still pending or running after all steps or 1048576 instructions: it needs more steps, a thaw or relief, or never ends")
 plain_words request errors.NoSuchFlush = line (codes "flushes are numbered from 0, as they are given: cmwq run prints each with its number")
 plain_words request errors.TooLong = line (codes "a text has at most 4194304 bytes, and so have the commands of a debugger")
 plain_words request errors.Tickets = line (codes "the lock has no ticket left")
@@ -177,7 +177,7 @@ abbrev pub names_line : (file kind : List ℕ) → (names : List (List ℕ)) →
 names_line file kind names word = called_by file kind word names (nearest names word)
 
 abbrev pub works_line : (file : List ℕ) → ScenarioContents → (word : List ℕ) → List ℕ
-works_line file S word = names_line file (codes "work") (work_names S) word
+works_line file S word = names_line file (codes "work item") (work_names S) word
 
 -- the actors that an exploration names, and the first of them that isn't declared
 abbrev pub actor_forbidden : Never → List (List ℕ)

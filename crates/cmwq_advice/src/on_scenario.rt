@@ -152,7 +152,7 @@ fn works_line(
     ensures { IfOk result (λ line. line.items ≡ works_line file.now scenario.now word.now) }
 {
     let names = work_names(alloc, scenario)?;
-    names_line(alloc, file, "work", &names, word)
+    names_line(alloc, file, "work item", &names, word)
 }
 
 /// The names of the works.

@@ -15,7 +15,7 @@ pub(crate) fn plain_words(request: &Request<'_>, fault: PlayError) -> &'static s
     match fault {
         PlayError::Full => full_words(request),
         PlayError::NeverQuiet =>
-            "  a work is still pending or runs when steps or 1048576 instructions are over: it wants more steps, a thaw or relief, or never ends\n",
+            "  a work item is still pending or running after all steps or 1048576 instructions: it needs more steps, a thaw or relief, or never ends\n",
         PlayError::NoSuchFlush => {
             "  flushes are numbered from 0, as they are given: cmwq run prints each with its number\n"
         }
@@ -83,13 +83,13 @@ fn image_words(error: ImageError) -> &'static str
     ensures { result.now ≡ image_words error }
 {
     match error {
-        ImageError::Magic => "  an image begins with CMWQ: this is none that cmwq asm made\n",
+        ImageError::Magic => "  an image begins with CMWQ; cmwq asm didn't make this file\n",
         ImageError::Version => "  the image is of a version that this program doesn't know\n",
         ImageError::Truncated => "  the image ends too early: a part of it is lost\n",
-        ImageError::Extra => "  bytes follow behind the image's end\n",
+        ImageError::Extra => "  bytes follow after the image's end\n",
         ImageError::BadField(_) =>
-            "  at this offset, in bytes from 0, the image has what can't stand there\n",
-        ImageError::Fault(_) => "  the image's scenario isn't one\n",
+            "  at this offset, in bytes from 0, the image has a value that isn't allowed\n",
+        ImageError::Fault(_) => "  the image's scenario isn't valid\n",
         ImageError::NoMemory => "",
     }
 }

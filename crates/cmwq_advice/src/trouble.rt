@@ -36,7 +36,7 @@ impl Trouble {
         match self {
             Trouble::NoFile => ": no such file",
             Trouble::NoFolder => ": no such folder",
-            Trouble::IsThere => " is there already; new doesn't overwrite",
+            Trouble::IsThere => " exists already; new doesn't overwrite it",
             Trouble::IsInput => " is the scenario's own text; asm doesn't overwrite it",
             Trouble::IsTraceInput => " is the scenario's own text; trace doesn't overwrite it",
             Trouble::IsFolder => " is a folder",

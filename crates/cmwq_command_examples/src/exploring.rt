@@ -26,7 +26,7 @@ pub fn orders_are_told_step_by_step()
     ensures runs { notes_behind poll [] (Question.Never (record { 0 = 0 })) (goes 0 ∷ steps 0 ∷ [])
         ≡ Some (codes "poll runs" ∷ codes "1 probe queue poll 0" ∷ codes "2 (machine) step 0" ∷ codes "  0 poll starts" ∷ codes "remove is before cancel poll" ∷ []) }
     ensures together { notes_behind poll [] (Question.Together (record { 0 = 0 }) (record { 0 = 0 })) []
-        ≡ Some (codes "poll and poll run at once" ∷ codes "probe is before queue poll 0" ∷ codes "remove is before cancel poll" ∷ []) }
+        ≡ Some (codes "poll and poll run at the same time" ∷ codes "probe is before queue poll 0" ∷ codes "remove is before cancel poll" ∷ []) }
 {}
 
 /// Behind the steps stands who waits, and for which flush; and who stands before which line. Who has ended isn't told.

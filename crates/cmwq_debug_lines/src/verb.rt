@@ -80,17 +80,17 @@ impl Verb {
             Verb::Goto => " K: goes to position K",
             Verb::Break => " work W event E | time T | refusal | activates W: makes a break",
             Verb::Clear => " I: removes break I",
-            Verb::List => ": tells the breaks",
+            Verb::List => ": prints the breaks",
             Verb::Run => {
                 ": goes forward up to the first instruction that a break matches, or to the end"
             }
             Verb::Next => {
                 " event: goes forward up to the first instruction that prints a line, or to the end"
             }
-            Verb::Dump => " [pool P]: tells the state, or what is in pool P",
-            Verb::Why => " W | flush F: tells why work W isn't further, or what flush F waits for",
+            Verb::Dump => " [pool P]: prints the state, or what is in pool P",
+            Verb::Why => " W | flush F: prints what work item W or flush F waits for",
             Verb::Help => {
-                ": tells the commands; the first word may be cut short where no other one begins so"
+                ": prints the commands; the first word may be cut short if it begins only one command"
             }
             Verb::Quit => ": ends the session",
         }

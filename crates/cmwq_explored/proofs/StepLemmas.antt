@@ -40,7 +40,7 @@ module _ (S : ScenarioContents) (names : HasNames S) where
   kind_is_note (Never work) = within 253 (joint (work_piece S work names.works) (literal 5 (codes " runs") refl refl)) refl
   kind_is_note (Together v w) =
       within 253
-      (joint (work_piece S v names.works) (joint (literal 5 (codes " and ") refl refl) (joint (work_piece S w names.works) (literal 12 (codes " run at once") refl refl))))
+      (joint (work_piece S v names.works) (joint (literal 5 (codes " and ") refl refl) (joint (work_piece S w names.works) (literal 21 (codes " run at the same time") refl refl))))
       refl
   kind_is_note Stuck = literal 253 (codes "no actor can go on, and not all have ended") refl refl
 

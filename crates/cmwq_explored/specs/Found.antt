@@ -25,7 +25,7 @@ use Rattle.cmwq_explored.specs.Answers.{actor_name}
 abbrev pub kind_note : ScenarioContents → Question → List ℕ
 kind_note S (After actor work) = work_name S work ++ (codes " is pending or runs, and " ++ (actor_name S actor ++ codes " has ended"))
 kind_note S (Never work) = work_name S work ++ codes " runs"
-kind_note S (Together v w) = work_name S v ++ (codes " and " ++ (work_name S w ++ codes " run at once"))
+kind_note S (Together v w) = work_name S v ++ (codes " and " ++ (work_name S w ++ codes " run at the same time"))
 kind_note S Stuck = codes "no actor can go on, and not all have ended"
 
 -- who does it

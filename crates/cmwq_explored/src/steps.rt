@@ -41,7 +41,7 @@ impl fmt::Display for KindNote<'_> {
             Question::Together(v, w) => {
                 let one = scenario.work_name(v.0 as usize);
                 let other = scenario.work_name(w.0 as usize);
-                write!(f, "{one} and {other} run at once")
+                write!(f, "{one} and {other} run at the same time")
             }
             Question::Stuck => f.write_str("no actor can go on, and not all have ended"),
         }

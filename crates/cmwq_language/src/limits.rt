@@ -82,23 +82,23 @@ impl Limited {
             Limited::Workers => "\n  workers N: the most workers of a pool, 1 to ",
             Limited::Steps => "\n  steps N: the most instructions that are accepted, 1 to ",
             Limited::Flushes => "\n  flushes N: how many flushes can be given, 0 to ",
-            Limited::MaxActive => "\n  queue NAME max N FLAG..: a queue and its max_active, 1 to ",
+            Limited::MaxActive => "\n  queue NAME max N FLAG..: its max_active is N, 1 to ",
             Limited::Queues => "; queues are at most ",
-            Limited::Works => "\n  work NAME QUEUE: a work of a declared queue; works are at most ",
+            Limited::Works =>
+                "\n  work NAME QUEUE: a work item of a declared queue; work items are at most ",
             Limited::Operations => {
-                "\n  body NAME: what the next work does, in the order of declaration: its operations, at most "
+                "\n  body NAME: begins the body of the next work item; operations are at most "
             }
-            Limited::Lines =>
-                "\n  actor NAME: who asks for what: its instructions, in lines of at most ",
+            Limited::Lines => "\n  actor NAME: begins a caller; lines are at most ",
             Limited::Actors => "; actors are at most ",
             Limited::Burn => "  burn N: keeps the CPU for N ticks, 1 to ",
             Limited::Sleep => "\n  sleep N: sleeps for N ticks, 1 to ",
             Limited::Delay => {
-                "\n  queue WORK CPU: queues a work on a CPU, from 0 on, unless it is pending\n  delay WORK N: queues it on this body's CPU in N ticks, unless it is pending, 0 to "
+                "\n  queue WORK CPU: queues a work item on a CPU, from 0 on, unless it is pending\n  delay WORK N: as queue, on this body's CPU in N ticks, 0 to "
             }
-            Limited::Mod => "\n  mod WORK N: queues it so in place of what it waited for, 0 to ",
+            Limited::Mod => "\n  mod WORK N: as delay, and replaces an earlier request, 0 to ",
             Limited::Times => {
-                "\n  cancel WORK: takes it off where it is pending\n  finish: ends the body\n\nInstructions of an actor; `* N` behind one has it so many times, 1 to "
+                "\n  cancel WORK: takes it off, if it is pending\n  finish: ends the body\n\nInstructions of an actor; `* N` after one gives it N times, 1 to "
             }
         }
     }

@@ -45,15 +45,17 @@ impl QueueFlag {
         ensures { result.now ≡ flag_meaning self }
     {
         match self {
-            QueueFlag::Highpri => ": its works go to the high pools, which go first on their CPU\n",
+            QueueFlag::Highpri =>
+                ": its work items use high-priority pools, which come first on their CPU\n",
             QueueFlag::Unbound => {
-                ": its works go to a pool of no CPU, where each runnable work burns\n"
+                ": its work items use an unbound pool; each runnable one burns there\n"
             }
             QueueFlag::CpuIntensive =>
-                ": its works don't keep others of their pool from starting\n",
+                ": its work items don't keep others of their pool from starting\n",
             QueueFlag::Freezable => ": activates nothing from freeze to thaw\n",
-            QueueFlag::Ordered => ": unbound, one work at a time, with max 1\n",
-            QueueFlag::MemReclaim => ": has a rescuer, which runs its works where no worker can\n",
+            QueueFlag::Ordered => ": unbound, one work item at a time, with max 1\n",
+            QueueFlag::MemReclaim =>
+                ": has a rescuer, which runs its work items if no worker can\n",
         }
     }
 }
@@ -84,30 +86,28 @@ pub(crate) fn meaning(word: Mnemonic) -> &'static str
     match word {
         Mnemonic::Queue => ": queues it on a CPU, unless it is pending\n",
         Mnemonic::Delay => ": queues it in N ticks, unless it is pending\n",
-        Mnemonic::Mod => ": queues it in N ticks, in place of what it waited for\n",
-        Mnemonic::Cancel => ": takes it off where it is pending\n",
-        Mnemonic::CancelSync => ": the same, and gives a flush of the instance that runs\n",
-        Mnemonic::Flush =>
-            ": gives a flush of its instance that is queued, else of the one that runs\n",
-        Mnemonic::FlushDelayed => ": queues it where its timer runs, and then as flush\n",
+        Mnemonic::Mod => ": as delay, and replaces an earlier request\n",
+        Mnemonic::Cancel => ": takes it off, if it is pending\n",
+        Mnemonic::CancelSync => ": as cancel, and gives a flush of the instance that runs\n",
+        Mnemonic::Flush => ": gives a flush of its queued instance, or else of the running one\n",
+        Mnemonic::FlushDelayed => ": queues it if it is on a timer, and then does as flush\n",
         Mnemonic::FlushQueue => ": gives a flush of all that was queued to it\n",
         Mnemonic::SetMax => ": changes its max_active\n",
         Mnemonic::Freeze => ": freezable queues activate nothing\n",
-        Mnemonic::Thaw => ": ends that\n",
-        Mnemonic::Fire => ": the first timer that is due queues its work\n",
+        Mnemonic::Thaw => ": ends freeze\n",
+        Mnemonic::Fire => ": the first timer that is due queues its work item\n",
         Mnemonic::Step => ": one move of the pool\n",
-        Mnemonic::Tick => ": a tick passes, where nothing can move\n",
+        Mnemonic::Tick => ": a tick passes, if nothing can move\n",
         Mnemonic::Next => ": fire, else a move of the least pool that has one, else a tick\n",
-        Mnemonic::Ask => ": whether flush F is done\n",
-        Mnemonic::Busy => ": whether a freezable queue has an active work\n",
-        Mnemonic::State => ": where it is\n",
-        Mnemonic::Disable =>
-            ": takes it off, and refuses to queue it until it is enabled as often\n",
+        Mnemonic::Ask => ": prints whether flush F is done\n",
+        Mnemonic::Busy => ": prints whether a freezable queue has an active work item\n",
+        Mnemonic::State => ": prints its state\n",
+        Mnemonic::Disable => ": takes it off, and refuses to queue it until enabled as often\n",
         Mnemonic::Enable => ": takes one disable back\n",
         Mnemonic::Pressure => ": memory is short: no worker is made\n",
-        Mnemonic::Relief => ": ends that\n",
-        Mnemonic::Until => ": nothing once the time is N, until then as next\n",
-        Mnemonic::Wait => ": nothing once flush F is done, until then as next\n",
-        Mnemonic::Quiet => ": nothing once no work is pending or runs, until then as next\n",
+        Mnemonic::Relief => ": ends pressure\n",
+        Mnemonic::Until => ": next while the time is below N, else nothing\n",
+        Mnemonic::Wait => ": next while flush F isn't done, else nothing\n",
+        Mnemonic::Quiet => ": next while a work item is pending or running, else nothing\n",
     }
 }

@@ -8,27 +8,28 @@ use crate::meanings::{FLAGS, QueueFlag, meaning, operand_names};
 use cmwq_types::{Mnemonic, NoMemory, shape_of};
 use std::alloc::Global;
 
-/// What stands in front of the lines.
+/// Comes before the lines.
 const TEXTS: &str = "\
-A scenario's text: words with blanks between them, line by line; what stands behind # is a comment.
-A name has 1 to 15 of a to z, 0 to 9 and _, first a letter.
+A scenario's text has lines of words, with blanks between the words. From # on a
+line is a comment. A name has 1 to 15 of a to z, 0 to 9 and _, first a letter.
 
 The lines, in this order:
 ";
 
-/// What stands between the lines and the flags.
+/// Comes between the lines and the flags.
 const FLAGS_FOLLOW: &str = "\n\nFlags of a queue, in any order:\n";
 
-/// What stands between the flags and the operations.
+/// Comes between the flags and the operations.
 const OPERATIONS_FOLLOW: &str = "\nOperations of a body:\n";
 
-/// What stands between the operations and the instructions.
+/// Comes between the operations and the instructions.
 const INSTRUCTIONS_FOLLOW: &str = ":\n";
 
-/// What stands behind the instructions.
+/// Comes after the instructions.
 const AT_THE_END: &str = "
-cancel_sync lets a work queue itself again, where a kernel's cancel_work_sync keeps it from that: disable WORK, flush WORK and enable WORK
-do as a kernel's. docs/FORMATS.md has every word, and scenarios/ has lessons.
+After cancel_sync a work item can queue itself again. A kernel's
+cancel_work_sync prevents that, and so do disable WORK, flush WORK and enable
+WORK together. docs/FORMATS.md has every word, and scenarios/ has examples.
 ";
 
 /// What a scenario's text may say, on one page: its lines in their order with their limits, the flags of queues, the operations of bodies,

@@ -5,39 +5,39 @@ ghost use Rattle.cmwq_grammar.specs.Grammar.{Spells};
 ghost use Rattle.std.specs.Prelude.{◌≡◌};
 
 const FIRST_TEXT: &str = "\
-# Two works share a CPU: b starts the moment that a goes to sleep.
+# Two work items share a CPU: b starts when a goes to sleep.
 #
-#   cmwq run FILE         a line for each thing that happens
-#   cmwq draw FILE        a picture of it
-#   cmwq why FILE b       why b isn't further, wherever that changes
-#   cmwq debug FILE       the same step by step, forwards and back
-#   cmwq help scenario    what may stand in such a text
+#   cmwq run FILE         prints a line for each event
+#   cmwq draw FILE        draws a picture of it
+#   cmwq why FILE b       prints what b waits for, each time that this changes
+#   cmwq debug FILE       steps through it, forward and back
+#   cmwq help scenario    prints what a scenario may contain
 #
-# Then change it: with max 1 b waits until a has finished, though the CPU is free from 3 to 8.
+# Then try max 1: b waits until a has finished, though the CPU is free from 3 to 8.
 
-cpus 1           # the machine: one CPU,
-workers 4        # at most 4 workers a pool,
-steps 1000       # and at most 1000 instructions
+cpus 1           # the machine has one CPU,
+workers 4        # at most 4 workers per pool,
+steps 1000       # and accepts at most 1000 instructions
 flushes 0
 
-queue q max 2    # a queue of which two works can be active
+queue q max 2    # a queue that can have two active work items
 work a q
 work b q
 
-body a           # what a's function does:
+body a           # what the work function of a does:
 burn 3           # it needs the CPU for 3 ticks,
-sleep 5          # sleeps 5 without it,
-burn 1           # and needs it for 1 more
+sleep 5          # sleeps for 5 ticks without it,
+burn 1           # and needs it for 1 more tick
 finish
 
 body b
 burn 4
 finish
 
-actor me         # what is asked of the machine, in this order:
-queue a 0        # queue both works on CPU 0,
+actor me         # what the caller does:
+queue a 0        # it queues both work items on CPU 0,
 queue b 0
-quiet * 100      # and go on until no work is pending and none runs, by 100 moves and ticks at most
+quiet * 100      # and waits until both have finished, for at most 100 moves and ticks
 ";
 
 /// The text of a scenario to start from, with comments.

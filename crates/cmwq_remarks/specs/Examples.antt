@@ -61,7 +61,7 @@ abbrev pub two_refused : List ℕ
 two_refused = codes "2 instructions were refused, the first in line 5\n"
 
 abbrev pub one_pending : List ℕ
-one_pending = codes "1 work is pending; --settle goes on until the machine is quiet\n"
+one_pending = codes "1 work item is pending; --settle continues until the machine is quiet\n"
 
 -- Queues that are CPU-intensive, and nothing is noted of: of a queue without works, of one whose work has the CPUs' pools for itself, and of such whose
 -- works go to no CPU's pool.

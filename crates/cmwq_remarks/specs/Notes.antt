@@ -45,7 +45,7 @@ sync_note S file number name None = []
 -- A CPU-intensive queue of bound works that isn't alone: a CPU serves first come, first served here, and a kernel's is shared.
 
 abbrev pub intensive_sentence : List ℕ
-intensive_sentence = codes "beside its works others start, and burn only once these sleep or are done: a CPU takes turns here, and a kernel's is shared"
+intensive_sentence = codes "other work items start beside its own, but burn only after these sleep or finish; a kernel time-slices the CPU"
 
 -- works of such a queue go to the pools of a CPU
 abbrev pub is_bound : Flags → Bool

@@ -110,8 +110,8 @@ pending_line count =
     if count == 0
     then []
     else counted count
-    (codes " work is pending; --settle goes on until the machine is quiet\n")
-    (codes " works are pending; --settle goes on until the machine is quiet\n")
+    (codes " work item is pending; --settle continues until the machine is quiet\n")
+    (codes " work items are pending; --settle continues until the machine is quiet\n")
 
 -- where the actor let the machine move, those that run count too
 abbrev pub left_count : ScenarioContents → State → ℕ

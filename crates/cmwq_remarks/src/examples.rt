@@ -42,8 +42,8 @@ pub fn refusals_are_counted()
 /// Where nothing is pending nothing is told.
 pub fn pending_works_are_told_by_their_number()
     ensures none { pending_line 0 ≡ [] }
-    ensures one { pending_line 1 ≡ codes "1 work is pending; --settle goes on until the machine is quiet\n" }
-    ensures two { pending_line 2 ≡ codes "2 works are pending; --settle goes on until the machine is quiet\n" }
+    ensures one { pending_line 1 ≡ codes "1 work item is pending; --settle continues until the machine is quiet\n" }
+    ensures two { pending_line 2 ≡ codes "2 work items are pending; --settle continues until the machine is quiet\n" }
 {}
 
 /// Behind a run it is told what was refused, and what is pending, unless the run goes on; behind a picture and an answer what is pending alone, and
@@ -112,7 +112,7 @@ pub fn bodies_that_delay_themselves_queue_themselves()
 /// queued, another's cancel, and a queue whose flags are plain aren't.
 pub fn notes_stand_at_their_lines()
     ensures { notes_from beside (codes "f") 1 (lines_of declared_and_cancelled)
-        ≡ codes "f:2: note: c: beside its works others start, and burn only once these sleep or are done: a CPU takes turns here, and a kernel's is shared\nf:4: note: a: cancel_sync lets it queue itself again, and a kernel's doesn't; disable, flush and enable do as a kernel's\n" }
+        ≡ codes "f:2: note: c: other work items start beside its own, but burn only after these sleep or finish; a kernel time-slices the CPU\nf:4: note: a: cancel_sync lets it queue itself again, and a kernel's doesn't; disable, flush and enable do as a kernel's\n" }
 {}
 
 /// A CPU that isn't there is noted in lines of actors, and a line without a count; the ticks of a body's `delay` aren't, nor a queue that is declared.

@@ -229,7 +229,7 @@ const SYNC: &[u8] =
     b"cancel_sync lets it queue itself again, and a kernel's doesn't; disable, flush and enable do as a kernel's";
 
 const INTENSIVE: &[u8] =
-    b"beside its works others start, and burn only once these sleep or are done: a CPU takes turns here, and a kernel's is shared";
+    b"other work items start beside its own, but burn only after these sleep or finish; a kernel time-slices the CPU";
 
 /// Whether the next word is `max`.
 fn begins_with_max(rest: &[u8]) -> bool

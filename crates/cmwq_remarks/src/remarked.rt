@@ -267,8 +267,8 @@ fn push_pending(told: &mut String, count: usize) -> Result<(), NoMemory>
     push_count(
         told,
         count,
-        " work is pending; --settle goes on until the machine is quiet\n",
-        " works are pending; --settle goes on until the machine is quiet\n",
+        " work item is pending; --settle continues until the machine is quiet\n",
+        " work items are pending; --settle continues until the machine is quiet\n",
     )
 }
 

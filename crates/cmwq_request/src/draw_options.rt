@@ -155,7 +155,7 @@ pub(crate) fn wanted_by_draw(given: &ArgMatches<'_>) -> &'static str {
         return "--from and --to take a time in ticks";
     };
     if !is_ahead(from, to) {
-        return "--from takes a time that isn't behind that of --to";
+        return "--from takes a time that isn't after that of --to";
     }
     if scale_asked(given).is_none() {
         return "--scale takes a number of pixels from 1 to 100";

@@ -142,7 +142,7 @@ pub(crate) fn ring_told(
 
 /// The names of a ring, the first of which is told again at its end.
 fn ring_line(alloc: Global, ring: &[&str]) -> Result<String, AllocError> {
-    let mut line = String::from_str(alloc, "--before goes in a ring: ")?;
+    let mut line = String::from_str(alloc, "--before goes in a cycle: ")?;
     for name in ring {
         line.push_str(name)?;
         line.push_str(", ")?;
@@ -163,7 +163,7 @@ pub(crate) fn wanted_by_explore(given: &ArgMatches<'_>) -> &'static str {
     }
     match (value_of(given, "ACTOR"), values_of(given, "WORK")) {
         (None, None) => "explore takes --never, --after with --never, or --stuck",
-        (None, Some(_)) => "--never takes two works that differ",
+        (None, Some(_)) => "--never takes two work items that differ",
         (Some(_), _) => "--after takes an ACTOR, and --never with one WORK beside it",
     }
 }

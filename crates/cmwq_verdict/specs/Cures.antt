@@ -38,7 +38,7 @@ kernel_cure next word = option_map (λ form. written_words (call_name word) form
 -- Flags that are joined by `|`, as in C.
 
 abbrev pub bar_words : List ℕ
-bar_words = codes "flags stand one after another, without WQ_ and |: queue NAME max N FLAG FLAG"
+bar_words = codes "write flags one after another, without WQ_ and |: queue NAME max N FLAG FLAG"
 
 abbrev pub is_declaration : Next → Bool
 is_declaration (next.Declaration room queues) = true
@@ -71,7 +71,7 @@ abbrev pub bodiless : (lines : List ℕ) → Option (List ℕ)
 bodiless lines = slice_get (names_in (codes "work") lines) (length (names_in (codes "body") lines))
 
 abbrev pub bodiless_words : (work : List ℕ) → List ℕ
-bodiless_words work = codes "work " ++ (work ++ (codes " has no body: body " ++ (work ++ codes ", its operations and finish stand before the actors")))
+bodiless_words work = codes "work " ++ (work ++ (codes " has no body: body " ++ (work ++ codes ", its operations and finish come before the actors")))
 
 abbrev pub wants_bodies : Next → Bool
 wants_bodies (next.Work room) = true

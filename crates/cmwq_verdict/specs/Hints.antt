@@ -47,7 +47,7 @@ things_offered offer word = names_offered offer word ++ limit_words offer.limits
 abbrev pub things_list : List (List ℕ) → List ℕ
 things_list things = flat_map (λ thing. codes ", " ++ thing) things
 
--- `  here may stand: THING, THING, or the line's end`
+-- `  expected here: THING, THING, or the line's end`
 abbrev pub end_text : (may_end : Bool) → List ℕ
 end_text true = codes ", or the line's end"
 end_text false = []
@@ -59,7 +59,7 @@ line_end first_words false = offer_line first_words
 
 abbrev pub stand_line : (first_words : List (List ℕ)) → (list : List ℕ) → (may_end : Bool) → List ℕ
 stand_line first_words list may_end =
-    if is_empty list then line_end first_words may_end else codes "  here may stand: " ++ (drop 2 list ++ (end_text may_end ++ 10 ∷ []))
+    if is_empty list then line_end first_words may_end else codes "  expected here: " ++ (drop 2 list ++ (end_text may_end ++ 10 ∷ []))
 
 -- the reasons of words that aren't the right ones
 abbrev pub is_misspelt : Why → Bool
@@ -71,7 +71,7 @@ is_misspelt why = false
 
 abbrev pub meant_line : Option (List ℕ) → List ℕ
 meant_line None = []
-meant_line (Some word) = codes "  is " ++ (word ++ (codes " meant?" ++ 10 ∷ []))
+meant_line (Some word) = codes "  did you mean " ++ (word ++ (codes "?" ++ 10 ∷ []))
 
 abbrev pub place_line : FaultPlace → (first_words : List (List ℕ)) → Option Offer → List ℕ
 place_line place first_words None = offer_line first_words

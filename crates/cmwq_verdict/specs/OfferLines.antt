@@ -24,7 +24,7 @@ spelled (first.Instruction mnemonic) = spelling mnemonic
 
 -- `  a line here may begin with: WORD, WORD`
 abbrev pub offer_line : List (List ℕ) → List ℕ
-offer_line [] = codes "  no line may stand here" ++ 10 ∷ []
+offer_line [] = codes "  no line may follow" ++ 10 ∷ []
 offer_line (word ∷ others) = codes "  a line here may begin with: " ++ word ++ flat_map (λ other. codes ", " ++ other) others ++ 10 ∷ []
 
 -- this is what a further line may be after the lines before that of the fault

@@ -60,7 +60,7 @@ fn cure_at(
 
 const COMMENT: &[u8] = b"a comment begins with #, and ends with its line";
 
-const BARS: &[u8] = b"flags stand one after another, without WQ_ and |: queue NAME max N FLAG FLAG";
+const BARS: &[u8] = b"write flags one after another, without WQ_ and |: queue NAME max N FLAG FLAG";
 
 /// Returns these words.
 fn said(alloc: Global, words: &[u8]) -> Result<Option<Vec<u8>>, NoMemory>
@@ -268,7 +268,7 @@ fn bodiless_words(alloc: Global, work: &[u8]) -> Result<Vec<u8>, NoMemory>
     let end = joined(
         alloc,
         work,
-        b", its operations and finish stand before the actors",
+        b", its operations and finish come before the actors",
     )?;
     let named = joined(alloc, b" has no body: body ", &end)?;
     let about = joined(alloc, work, &named)?;

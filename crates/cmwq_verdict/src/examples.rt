@@ -13,11 +13,11 @@ ghost use Rattle.std.specs.Prelude.{◌≡◌, ◌∷◌, ◌++◌, [], None, So
 /// What may stand at a place is told in one line: the things, with a comma between two, and the line's end; where there is none, that the line should
 /// end, or how one may begin.
 pub fn places_are_told_in_a_line()
-    ensures things { stand_line (codes "queue" ∷ []) (things_list (codes "a" ∷ codes "b" ∷ [])) false ≡ codes "  here may stand: a, b\n" }
-    ensures end_too { stand_line (codes "queue" ∷ []) (things_list (codes "*" ∷ [])) true ≡ codes "  here may stand: *, or the line's end\n" }
+    ensures things { stand_line (codes "queue" ∷ []) (things_list (codes "a" ∷ codes "b" ∷ [])) false ≡ codes "  expected here: a, b\n" }
+    ensures end_too { stand_line (codes "queue" ∷ []) (things_list (codes "*" ∷ [])) true ≡ codes "  expected here: *, or the line's end\n" }
     ensures end_alone { stand_line (codes "queue" ∷ []) (things_list []) true ≡ codes "  the line should end here\n" }
     ensures nothing { stand_line (codes "work" ∷ codes "actor" ∷ []) (things_list []) false ≡ codes "  a line here may begin with: work, actor\n" }
-    ensures meant { meant_line (Some (codes "freezable")) ≡ codes "  is freezable meant?\n" }
+    ensures meant { meant_line (Some (codes "freezable")) ≡ codes "  did you mean freezable?\n" }
     ensures not_meant { meant_line None ≡ [] }
     ensures limits { limits_text 1 16 ≡ codes "a number from 1 to 16" }
     ensures one_number { limits_text 0 0 ≡ codes "the number 0" }
@@ -47,12 +47,12 @@ pub fn first_words_are_meant_at_the_front()
 /// A sentence is told by its reason: on a number with its limits, on `max` apart from `ordered`, in an open body with its work.
 pub fn reasons_have_their_sentences()
     ensures range { why_sentence [] (Some (record { low = 1; high = 16 })) None (why.Fault fault.Range)
-        ≡ codes "  the number is out of its limits: here stands a number from 1 to 16\n" }
+        ≡ codes "  the number is out of its limits: it must be a number from 1 to 16\n" }
     ensures max { why_sentence (codes "0") None None (why.Fault fault.BadFlags)
         ≡ codes "  max takes 1 to 512; a kernel's 0, its default, is 256 in Linux 6.1 and 6.12\n" }
     ensures ordered { why_sentence (codes "ordered") None None (why.Fault fault.BadFlags) ≡ codes "  an ordered queue has max 1\n" }
     ensures in_body { why_sentence (codes "tick") None (Some (codes "mail")) why.Misplaced
-        ≡ codes "  the body of mail is open: its operations stand here, and finish ends it\n" }
+        ≡ codes "  the body of mail is open: its operations belong here, and finish ends it\n" }
     ensures no_end { why_sentence (codes "actor") None (Some (codes "mail")) (why.Fault fault.BadBody) ≡ codes "  the body of mail lacks the finish that ends it\n" }
 {}
 

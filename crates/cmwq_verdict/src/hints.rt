@@ -114,7 +114,7 @@ fn push_standing(
     }
     push_between(
         told,
-        b"  here may stand: ",
+        b"  expected here: ",
         behind_two(list),
         end_text(may_end),
     )?;
@@ -287,7 +287,7 @@ fn push_meant(told: &mut Vec<u8>, meant: Option<Vec<u8>>) -> Result<(), NoMemory
     ensures { OnOk result (told.new.items ≡ told.old.items ++ meant_line (option_map (λ meant. meant.items) meant)) }
 {
     match meant {
-        Some(word) => push_between(told, b"  is ", &word, b" meant?\n"),
+        Some(word) => push_between(told, b"  did you mean ", &word, b"?\n"),
         None => Ok(()),
     }
 }

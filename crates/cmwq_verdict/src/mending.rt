@@ -101,7 +101,7 @@ fn push_reason(
         ),
         Why::BadWord => push_sentence(
             told,
-            b"this word means nothing here: what may stand is told above",
+            b"this word means nothing here; the words that fit are listed above",
         ),
         Why::BadName => push_sentence(
             told,
@@ -109,12 +109,12 @@ fn push_reason(
         ),
         Why::BadNumber => push_sentence(
             told,
-            b"a number has 1 to 10 digits, no sign, and no 0 in front of others",
+            b"a number has 1 to 10 digits, no sign, and no 0 before other digits",
         ),
-        Why::MissingWord => push_sentence(told, b"the line or the text ends before all is said"),
+        Why::MissingWord => push_sentence(told, b"the line or the text ends too early"),
         Why::ExtraWord => push_sentence(
             told,
-            b"the line has a word too many; an instruction is repeated by `* N` behind it",
+            b"the line has a word too many; `* N` after an instruction repeats it",
         ),
         Why::Misplaced => push_order(told, body),
         Why::TooLong => push_sentence(told, b"a text has at most 4194304 bytes"),
@@ -137,16 +137,16 @@ fn push_fault(
         Fault::Range => push_range(alloc, told, limits),
         Fault::TooMany => push_sentence(
             told,
-            b"at most 32 queues, 256 works of 64 operations, 16 actors of 4096 lines",
+            b"at most 32 queues, 256 work items of 64 operations, 16 actors of 4096 lines",
         ),
         Fault::Duplicate => push_sentence(
             told,
-            b"no two queues, works or actors have one name, and no flag stands twice",
+            b"two queues, work items or actors can't have the same name, and a flag is given once",
         ),
         Fault::Unknown => {
             push_sentence(
                 told,
-                b"no line before declares a work or a queue of this name",
+                b"no earlier line declares a work item or a queue with this name",
             )
         }
         Fault::BadBody => push_body_end(told, body),
@@ -164,7 +164,7 @@ fn push_range(alloc: Global, told: &mut Vec<u8>, limits: Option<Limits>) -> Resu
     let numbers = limits_text(alloc, low, high)?;
     push_between(
         told,
-        b"  the number is out of its limits: here stands ",
+        b"  the number is out of its limits: it must be ",
         &numbers,
         b"\n",
     )
@@ -191,14 +191,14 @@ fn push_order(told: &mut Vec<u8>, body: Option<&[u8]>) -> Result<(), NoMemory>
     let Some(work) = body else {
         return push_sentence(
             told,
-            b"lines stand in this order: cpus, workers, steps, flushes, queues, works, bodies in the order of their works, actors",
+            b"lines come in this order: cpus, workers, steps, flushes, queues, work items, bodies in the order of their work items, actors",
         );
     };
     push_between(
         told,
         b"  the body of ",
         work,
-        b" is open: its operations stand here, and finish ends it\n",
+        b" is open: its operations belong here, and finish ends it\n",
     )
 }
 

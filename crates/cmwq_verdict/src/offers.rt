@@ -35,7 +35,7 @@ pub(crate) fn push_offered(told: &mut Vec<u8>, words: &[FirstWord]) -> Result<()
     ensures { OnOk result (told.new.items ≡ told.old.items ++ offer_line (map spelled words.now)) }
 {
     match words {
-        [] => push_bytes(told, b"  no line may stand here\n"),
+        [] => push_bytes(told, b"  no line may follow\n"),
         [word, others @ ..] => push_word_and_others(told, word.as_bytes(), others),
     }
 }

@@ -30,10 +30,10 @@ use std::alloc::Global;
 /// first 64 bytes are shown, and `?` for each that isn't a visible character of ASCII.
 ///
 /// The second line is `  a line here may begin with: WORD, WORD`, of just those words with which some scenario's text goes on after the lines
-/// before the fault's, or `  no line may stand here`. Behind a first word with which a line may begin it is `  here may stand: THING, THING`: of
+/// before the fault's, or `  no line may follow`. Behind a first word with which a line may begin it is `  expected here: THING, THING`: of
 /// `max`, the flags, `*` and the names that lines before declare just those with which the line goes on, the nearest to the word first, and not
-/// more than eight; `a new name`; `a number from LOW to HIGH`; `the line's end`. Where a word is misspelt, and one that may stand there is near, `  is
-/// WORD meant?` follows. A text that is too long has none of these. Where it is to point at the place, the fault's line stands behind the first, its
+/// more than eight; `a new name`; `a number from LOW to HIGH`; `the line's end`. If a word is misspelt and one that fits there is near, `  did you
+/// mean WORD?` follows. A text that is too long has none of these. Where it is to point at the place, the fault's line stands behind the first, its
 /// first 100 bytes, with a caret below the column where that is among them; as a terminal shows it, the reason is red as well. It fails only
 /// for want of memory.
 pub fn verdict(

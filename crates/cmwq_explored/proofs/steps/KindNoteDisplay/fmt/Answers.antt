@@ -22,7 +22,7 @@ returns-in-Together-clause-writes g c = λ plain ok.
     let S = c.args.self.now.scenario.now in
     let one = c.work_name-one.result.now in
     subst (λ (text : List ℕ). HasWritten {W = g.row.W.Denot} g.W.Write.write_str_gives c.args.f.now text c.write-in-Together.new.self)
-    (ap (λ (name : List ℕ). one ++ (codes " and " ++ (name ++ codes " run at once"))) c.work_name-other.ensures
-    ∙ ap (λ (name : List ℕ). name ++ (codes " and " ++ (work_name S c.in-Together.w ++ codes " run at once"))) c.work_name-one.ensures
+    (ap (λ (name : List ℕ). one ++ (codes " and " ++ (name ++ codes " run at the same time"))) c.work_name-other.ensures
+    ∙ ap (λ (name : List ℕ). name ++ (codes " and " ++ (work_name S c.in-Together.w ++ codes " run at the same time"))) c.work_name-one.ensures
     ∙ ap (λ (q : Question). kind_note S q) (sym c.in-Together.is))
     (c.write-in-Together.ensures.writes plain ok)
