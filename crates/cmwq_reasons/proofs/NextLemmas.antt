@@ -4,12 +4,11 @@ use Rattle.std.proofs.lemmas.Bool.{and_parts, eqb-true, lt-ltb}
 use Rattle.std.specs.Prelude.{◌==◌, is_none, nat_lt}
 use Rattle.cmwq_types.specs.Contents.{ScenarioContents}
 use Rattle.cmwq_types.specs.First.{by_least_two}
-use Rattle.cmwq_types.specs.Scenario.{op_at, pool_count, queue_of, local_cpu}
+use Rattle.cmwq_types.specs.Scenario.{pool_count, queue_of}
 use Rattle.cmwq_types.specs.declared.instr.Instr.TheVariants as instr
 use Rattle.cmwq_types.specs.declared.instr.WorkId.{WorkId}
 use Rattle.cmwq_types.specs.declared.moves.Move.{Move}
 use Rattle.cmwq_types.specs.declared.moves.Move.TheVariants.{Advance, Wake, Start, Defer, Rescue}
-use Rattle.cmwq_types.specs.declared.reply.Event.{Event}
 use Rattle.cmwq_types.specs.declared.reply.Event.TheVariants as event
 use Rattle.cmwq_types.specs.declared.reply.Place.{Place}
 use Rattle.cmwq_types.specs.declared.reply.Place.TheVariants.{Timer, Inactive, Listed, Deferred}
@@ -17,14 +16,12 @@ use Rattle.cmwq_types.specs.declared.reply.Refusal.{Refusal}
 use Rattle.cmwq_types.specs.declared.reply.Refusal.TheVariants.{NoSuchPool, NothingToDo, Spent}
 use Rattle.cmwq_types.specs.declared.reply.Reply.{Reply}
 use Rattle.cmwq_types.specs.declared.reply.Reply.TheVariants as reply
-use Rattle.cmwq_types.specs.declared.scenario.Op.{Op}
-use Rattle.cmwq_types.specs.declared.scenario.Op.TheVariants as op
 use Rattle.cmwq_table.specs.declared.state.Pending.{Pending}
 use Rattle.cmwq_table.specs.declared.state.Running.{Running}
-use Rattle.cmwq_table.specs.State.{State, is_disabled, is_unbound, pending_at, running_at}
-use Rattle.cmwq_table.specs.Counts.{can_be_rescued, first_due, first_listed, first_ready, first_rescued, first_runnable, first_slept, has_free_rescuer, if_ready, is_deferred, is_due, is_listed, is_runnable, is_slept, may_start, or_else, pending_before, pending_due, pending_stamp, pends, ready_head, running_before, running_stamp, running_until, runs}
+use Rattle.cmwq_table.specs.State.{State, is_unbound, pending_at, running_at}
+use Rattle.cmwq_table.specs.Counts.{can_be_rescued, first_due, first_listed, first_ready, first_rescued, first_runnable, first_slept, has_free_rescuer, if_ready, is_due, is_listed, is_runnable, is_slept, may_start, or_else, pending_before, pending_due, pending_stamp, pends, ready_head, running_before, running_stamp, running_until, runs}
 use Rattle.cmwq_table.specs.Laws.{placed_in, reply_to}
-use Rattle.cmwq_table.specs.Moves.{advance, begin_again, carry_out, come_to_end, moved, moved_work, next_move, onward, queue_from_body, retire, delay_from_body, mod_from_body}
+use Rattle.cmwq_table.specs.Moves.{moved, moved_work, next_move}
 use Rattle.cmwq_table.specs.Table.{answer, effect, fired_first, nothing_to_do, refusal, refuse_unless, spent_all, stepped, table}
 use Rattle.cmwq_reasons.specs.declared.reason.Instance.{Instance}
 use Rattle.cmwq_reasons.specs.declared.reason.Instance.TheVariants as instance
@@ -32,10 +29,11 @@ use Rattle.cmwq_reasons.specs.declared.reason.Reason.{Reason}
 use Rattle.cmwq_reasons.specs.declared.reason.Reason.TheVariants as reason
 use Rattle.cmwq_reasons.specs.declared.reason.Turn.{Turn}
 use Rattle.cmwq_reasons.specs.declared.reason.Turn.TheVariants.{Starts, Defers, StartsOnRescuer}
-use Rattle.cmwq_reasons.specs.Laws.{InAnyState, IsFiredNext, IsHead, IsMovedNext, IsNextToMove, SaysFiresNext, SaysNext, StepMoves, instance_of, moves_next, turn_move, pool_if_pending, pool_if_running, takes_pending}
+use Rattle.cmwq_reasons.specs.Laws.{InAnyState, IsFiredNext, IsHead, IsMovedNext, IsNextToMove, SaysFiresNext, SaysNext, StepMoves, instance_of, moves_next, turn_move, pool_if_pending, pool_if_running}
 use Rattle.cmwq_reasons.specs.Reasons.{moved_by, moved_instance, mover, pending_half, reason_if_pending, reason_if_running, reason_in_place, reason_of_running, running_half}
 use Rattle.cmwq_reasons.proofs.MoverLemmas.{MoveSays, due-first, is_due_now, is_listed_in, is_ready_in, is_runnable_in, is_slept_in, listed-first, moved_by-some, next_move-says, ready-first, rescued-first, runnable-first, slept-first, some-first}
 use Rattle.cmwq_reasons.proofs.PendingRows.{PlaceRow, fires_next-from, fires_next-to, free-to, place-row}
+use Rattle.cmwq_reasons.proofs.Saying.{advances-run}
 use Rattle.cmwq_reasons.proofs.RunningRows.{RunRow, ready_next-to, run-row, runnable-is, wakes_next-to}
 
 -- Who says that it is next, is moved next.
@@ -229,43 +227,6 @@ steps S s pool more there =
     neither (refuse_unless (nat_lt pool (pool_count S)) NoSuchPool) (spent_all S s (instr.Step pool)) (nothing_to_do (next_move S s pool))
     (accepted (nat_lt pool (pool_count S)) NoSuchPool (lt-ltb pool (pool_count S) there)) (accepted (nat_lt s.spent S.steps) Spent (lt-ltb s.spent S.steps more)) in
     ap (λ (o : Option Refusal). (answer S s (instr.Step pool) o (effect S s (instr.Step pool))).1) judged ∙ answered S s pool (next_move S s pool)
-
-queues-run : (S : ScenarioContents) (s : State) (other : WorkId) (cpu : ℕ) (b : Bool) (p : Option Pending) → takes_pending (queue_from_body S s other cpu b p).1 ≡ false
-queues-run S s other cpu true p = refl
-queues-run S s other cpu false (Some p) = refl
-queues-run S s other cpu false None = refl
-
-delays-run : (S : ScenarioContents) (s : State) (other : WorkId) (cpu ticks : ℕ) (b : Bool) (p : Option Pending)
-    → takes_pending (delay_from_body S s other cpu ticks b p).1 ≡ false
-delays-run S s other cpu ticks true p = refl
-delays-run S s other cpu ticks false (Some p) = refl
-delays-run S s other cpu ticks false None = refl
-
-mods-run : (S : ScenarioContents) (s : State) (other : WorkId) (cpu ticks : ℕ) (b : Bool) (p : Option Pending)
-    → takes_pending (mod_from_body S s other cpu ticks b p).1 ≡ false
-mods-run S s other cpu ticks true p = refl
-mods-run S s other cpu ticks false p = refl
-
-ends-run-if : (b : Bool) (t u : State) → takes_pending (cond {A = State × Event} b (t, event.FinishesAndStarts) (u, event.Finishes)).1 ≡ false
-ends-run-if true t u = refl
-ends-run-if false t u = refl
-
-ends-run : (s : State) (w : ℕ) (r : Running) (p : Option Pending) → takes_pending (come_to_end s w r p).1 ≡ false
-ends-run s w r (Some p) = ends-run-if (is_deferred p.place) (begin_again s w r p) (retire s w r)
-ends-run s w r None = refl
-
-carries-run : (S : ScenarioContents) (s : State) (w : ℕ) (r : Running) (o : Op) → takes_pending (carry_out S s w r o).1 ≡ false
-carries-run S s w r (op.Burn ticks) = refl
-carries-run S s w r (op.Sleep ticks) = refl
-carries-run S s w r (op.Queue other cpu) = queues-run S (onward s w r) other cpu (is_disabled s other.0) (pending_at s other.0)
-carries-run S s w r op.Finish = ends-run s w r (pending_at s w)
-carries-run S s w r (op.Delay other ticks) = delays-run S (onward s w r) other (local_cpu S r.pool) ticks (is_disabled s other.0) (pending_at s other.0)
-carries-run S s w r (op.Mod other ticks) = mods-run S (onward s w r) other (local_cpu S r.pool) ticks (is_disabled s other.0) (pending_at s other.0)
-carries-run S s w r (op.Cancel other) = refl
-
-advances-run : (S : ScenarioContents) (s : State) (w : ℕ) (o : Option Running) → takes_pending (advance S s w o).1 ≡ false
-advances-run S s w (Some r) = carries-run S s w r (op_at S w r.pc)
-advances-run S s w None = refl
 
 -- a move's event is one of the instance that it moves
 tells-moved : (S : ScenarioContents) (s : State) (pool : ℕ) (move : Move) → instance_of (moved_work move) (moved S s pool move).1 ≡ moved_instance move

@@ -39,15 +39,16 @@ settings s = record { max = s.max; frozen = s.frozen; pressed = s.pressed }
 pub turn-settings : (S : ScenarioContents) (s t : State) (w : ℕ) (took put : Bool) → Turn S s w took put t → settings t ≡ settings s
 turn-settings S s t w took put turn = ap settings (turn-rest S s t w took put turn)
 
-retired-settings : (s : State) (w : ℕ) (r : Running) → settings (retire s w r) ≡ settings s
-retired-settings s w r = at (is_rescuer r.worker) where
-  at : (b : Bool) → settings (cond {A = State} b (with_running s w None) (become_idle s w r)) ≡ settings s
-  at true = refl
-  at false = refl
+-- the worker of an instance that ends is free, or a rescuer is
+pub retired : (P : State → Type 0) (s : State) (w : ℕ) (r : Running) → P (with_running s w None) → P (become_idle s w r) → P (retire s w r)
+retired P s w r rescuer worker = at (is_rescuer r.worker) where
+  at : (b : Bool) → P (cond {A = State} b (with_running s w None) (become_idle s w r))
+  at true = rescuer
+  at false = worker
 
 pub acts-settings : (S : ScenarioContents) (s t : State) (pool : ℕ) (move : Move) (e : Event) → Acts S s pool move e t → settings t ≡ settings s
 acts-settings S s t pool move e (Acts.asks w r o e1 v took put u is at asking turn) = turn-settings S (onward s w.0 r) u v took put turn
-acts-settings S s t pool move e (Acts.ends w r u is at none filling) = ap settings (fills-rest S (retire s w.0 r) u filling) ∙ retired-settings s w.0 r
+acts-settings S s t pool move e (Acts.ends w r u is at none filling) = ap settings (fills-rest S (retire s w.0 r) u filling) ∙ retired (λ (x : State). settings x ≡ settings s) s w.0 r refl refl
 acts-settings S s t pool move e (Acts.again w r p u is at some deferred filling) = ap settings (fills-rest S (begin_again s w.0 r p) u filling)
 acts-settings S s t pool move e acting = refl
 
