@@ -14,7 +14,7 @@ use Rattle.cmwq_types.specs.declared.reply.Event.{Event}
 use Rattle.cmwq_types.specs.declared.reply.Place.{Place}
 use Rattle.cmwq_types.specs.declared.reply.Place.TheVariants.{Timer, Inactive, Listed, Deferred}
 use Rattle.cmwq_types.specs.declared.reply.Reply.{Reply}
-use Rattle.cmwq_types.proofs.FirstLemmas.{by_greatest-order, by_least-order, first_below-is_first}
+use Rattle.cmwq_types.proofs.FirstLemmas.{by_greatest-order, first_below-is_first}
 use Rattle.cmwq_types.proofs.SettingLemmas.{IsSetting-valid}
 use Rattle.cmwq_table.specs.declared.state.Pending.{Pending}
 use Rattle.cmwq_table.specs.declared.state.Running.{Running}
@@ -30,7 +30,7 @@ use Rattle.cmwq_table.proofs.Doings.{table-does}
 use Rattle.cmwq_reasons.specs.declared.reason.Instance.TheVariants as instance
 use Rattle.cmwq_reasons.specs.Laws.{AreMoves, WaitsForRelief, is_move, NoBodyTakesOff}
 use Rattle.cmwq_reasons.specs.Reasons.{has_relief_to_come, is_starved}
-use Rattle.cmwq_reasons.proofs.MoverLemmas.{some-first}
+use Rattle.cmwq_reasons.proofs.MoverLemmas.{activated-fits, some-first}
 use Rattle.cmwq_reasons.proofs.NoWorkerLemmas.{starved-parts}
 use Rattle.cmwq_reasons.proofs.RestLemmas.{retired}
 use Rattle.cmwq_reasons.proofs.Saying.{move-sets, table-leaves, took-apart}
@@ -116,21 +116,13 @@ module _ (w pool born : ℕ) where
 module _ (S : ScenarioContents) (setting : IsSetting S) (w pool born : ℕ) (no_rescuer : (flags_at S (queue_of S w)).mem_reclaim ≡ false) where
   -- Filling.
 
-  found-inactive : (s : State) (queue at v : ℕ) → first_inactive S s queue at ≡ Some v → pends (λ place. is_inactive place at) (pending_at s v) ≡ true
-  found-inactive s queue at v found =
-      let test = λ (v : ℕ). (queue_of S v == queue) && pends (λ place. is_inactive place at) (pending_at s v) in
-      let first =
-      some-first (pending_before s) test (length S.works) (first_inactive S s queue at)
-      (first_below-is_first (pending_before s) test (length S.works) (by_least-order (λ v. pending_stamp (pending_at s v)))) v found in
-      (and_parts (queue_of S v == queue) (pends (λ place. is_inactive place at) (pending_at s v)) first.1).1
-
   fills-starved : (s t : State) → Fills S s t → Starved w pool born s → Starved w pool born t
   fills-starved s t Fills.stays starved = starved
   fills-starved s t (Fills.more u queue at v filling first room) starved =
       let before = fills-starved s u filling starved in
       starved-then w pool born u t refl refl (λ is. is)
       (λ waits. set-kept (WaitsIn pool born) u.pending v w (listed_at at u.next (pending_at u v))
-      (λ same. listed-waits pool born at u.next (pending_at u v) (found-inactive u queue at v first) (subst (λ (k : ℕ). WaitsIn pool born (pending_at u k)) (sym same) waits)) waits)
+      (λ same. listed-waits pool born at u.next (pending_at u v) (activated-fits S u queue at v first).1 (subst (λ (k : ℕ). WaitsIn pool born (pending_at u k)) (sym same) waits)) waits)
       before
 
   -- Moves.

@@ -1,17 +1,18 @@
 -- What a pool's next move says of the instance that it moves, and which instances are sure that there is one.
 use Rattle.std.proofs.Common.{◌≡◌, ℕ, ◌<◌, Bool, true, false, cond, ◌&&◌, length, Option, Some, None, refl, ap, ◌∙◌, subst}
-use Rattle.std.proofs.lemmas.Bool.{and_from, cond-true, eq-eqb, eqb-true}
+use Rattle.std.proofs.lemmas.Bool.{and_from, and_parts, cond-true, eq-eqb, eqb-true}
 use Rattle.std.specs.Prelude.{◌==◌}
 use Rattle.cmwq_types.specs.Contents.{ScenarioContents}
+use Rattle.cmwq_types.specs.Scenario.{queue_of}
 use Rattle.cmwq_types.specs.First.{MatchFirst, by_least_two}
 use Rattle.cmwq_types.specs.declared.instr.WorkId.{WorkId}
 use Rattle.cmwq_types.specs.declared.moves.Move.{Move}
 use Rattle.cmwq_types.specs.declared.moves.Move.TheVariants.{Advance, Wake, Rescue}
 use Rattle.cmwq_types.specs.declared.reply.Mode.TheVariants.{Runnable}
-use Rattle.cmwq_types.proofs.FirstLemmas.{by_least_two-order, first_below-is_first}
+use Rattle.cmwq_types.proofs.FirstLemmas.{by_least-order, by_least_two-order, first_below-is_first}
 use Rattle.cmwq_table.specs.declared.state.Running.{Running}
 use Rattle.cmwq_table.specs.State.{State, is_unbound, pending_at, running_at}
-use Rattle.cmwq_table.specs.Counts.{first_due, first_listed, first_ready, first_rescued, first_runnable, first_slept, free_worker, if_ready, is_due, is_listed, is_runnable, is_slept, may_start, or_else, pending_due, pending_stamp, pends, ready_head, running_before, runs}
+use Rattle.cmwq_table.specs.Counts.{first_due, first_inactive, first_listed, first_ready, first_rescued, first_runnable, first_slept, free_worker, if_ready, is_due, is_inactive, is_listed, is_runnable, is_slept, may_start, or_else, pending_before, pending_due, pending_stamp, pends, ready_head, running_before, runs}
 use Rattle.cmwq_table.proofs.Choosing.{ready-is_first, runnable-is_first, slept-is_first, slept_before}
 use Rattle.cmwq_table.specs.Moves.{as_move, next_move, start_first, start_move, start_or_rescue, take_listed}
 use Rattle.cmwq_reasons.specs.declared.reason.Instance.{Instance}
@@ -68,6 +69,14 @@ pub due-first : (S : ScenarioContents) (s : State) → MatchFirst (due_before s)
 due-first S s =
     first_below-is_first (due_before s) (is_due_now s) (length S.works)
     (by_least_two-order (λ w. pending_due (pending_at s w)) (λ w. pending_stamp (pending_at s w)))
+
+-- a work item that is activated is inactive in the pool, and one of the queue
+pub activated-fits : (S : ScenarioContents) (s : State) (queue pool w : ℕ) → first_inactive S s queue pool ≡ Some w
+    → ((queue_of S w == queue) ≡ true) × (pends (λ place. is_inactive place pool) (pending_at s w) ≡ true)
+activated-fits S s queue pool w found =
+    let test = λ (v : ℕ). (queue_of S v == queue) && pends (λ place. is_inactive place pool) (pending_at s v) in
+    and_parts (queue_of S w == queue) (pends (λ place. is_inactive place pool) (pending_at s w))
+    (some-first (pending_before s) test (length S.works) (first_inactive S s queue pool) (first_below-is_first (pending_before s) test (length S.works) (by_least-order (λ v. pending_stamp (pending_at s v)))) w found).1
 
 -- Who is sure of a move.
 

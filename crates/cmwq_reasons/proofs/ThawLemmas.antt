@@ -1,6 +1,6 @@
 -- An inactive work of a queue that may have no active one stays inactive, whatever the machine does by itself.
 use Rattle.std.proofs.Common.{◌≡◌, ◌⊎◌, ℕ, zero, suc, ◌<◌, Bool, true, false, not, cond, ◌&&◌, List, [], ◌∷◌, ◌++◌, length, Option, Some, None, arith, refl, sym, ap, ◌∙◌, subst, inl, inr}
-use Rattle.std.proofs.lemmas.Bool.{and_from, and_parts, eqb-true, ltb-true, ne_eqb, or_left}
+use Rattle.std.proofs.lemmas.Bool.{and_from, eqb-true, ltb-true, ne_eqb, or_left}
 use Rattle.std.proofs.lemmas.List.{get_or-set_other}
 use Rattle.std.specs.Prelude.{nat_lt, slice_index_or, slice_set, ◌==◌}
 use Rattle.cmwq_types.specs.Contents.{ScenarioContents}
@@ -12,13 +12,12 @@ use Rattle.cmwq_types.specs.declared.reply.Event.{Event}
 use Rattle.cmwq_types.specs.declared.reply.Place.{Place}
 use Rattle.cmwq_types.specs.declared.reply.Place.TheVariants.{Timer, Inactive, Listed, Deferred}
 use Rattle.cmwq_types.specs.declared.reply.Reply.{Reply}
-use Rattle.cmwq_types.proofs.FirstLemmas.{by_least-order, first_below-is_first}
 use Rattle.cmwq_table.specs.declared.state.FlushTarget.{FlushTarget}
 use Rattle.cmwq_table.specs.declared.state.FlushTarget.TheVariants as target
 use Rattle.cmwq_table.specs.declared.state.Pending.{Pending}
 use Rattle.cmwq_table.specs.State.{State, pending_at, running_at}
 use Rattle.cmwq_table.specs.Changes.{Acts, Does, Effect, Fills, MoveFits, Turn}
-use Rattle.cmwq_table.specs.Counts.{active, first_inactive, has_instance, has_room, is_deferred, is_done, is_inactive, is_listed, is_placed, limit, pending_before, pending_stamp, pends, placed_born, queued_before, runs}
+use Rattle.cmwq_table.specs.Counts.{active, first_inactive, has_instance, has_room, is_deferred, is_done, is_listed, is_placed, limit, pends, placed_born, queued_before, runs}
 use Rattle.cmwq_table.specs.Moves.{become_idle, begin_again, onward, retire, with_pending, with_running}
 use Rattle.cmwq_table.specs.Table.{after_all, table}
 use Rattle.cmwq_table.specs.Told.{cancelled_by, taken_off_in}
@@ -28,7 +27,7 @@ use Rattle.cmwq_reasons.specs.declared.reason.Instance.TheVariants as instance
 use Rattle.cmwq_reasons.specs.Laws.{AreMoves, InAnyState, IsAmong, WaitsForThaw, is_move, NoBodyTakesOff}
 use Rattle.cmwq_reasons.specs.Reasons.{birth, has_thaw_to_come, instances_born, pending_half, put_all_by_birth, put_by_birth, running_half, waits, waits_below}
 use Rattle.cmwq_reasons.proofs.BelowLemmas.{count-some}
-use Rattle.cmwq_reasons.proofs.MoverLemmas.{some-first}
+use Rattle.cmwq_reasons.proofs.MoverLemmas.{activated-fits}
 use Rattle.cmwq_reasons.proofs.PendingRows.{pending-work}
 use Rattle.cmwq_reasons.proofs.RestLemmas.{Settings, retired, settings}
 use Rattle.cmwq_reasons.proofs.Saying.{move-sets, table-leaves, took-apart}
@@ -66,11 +65,7 @@ module _ (S : ScenarioContents) (w pool : ℕ) (p : Pending) where
 
   no-room : (s : State) (queue at v : ℕ) → Stuck S w pool p s → first_inactive S s queue at ≡ Some v → has_room S s queue at ≡ true → w ≡ v → ⊥
   no-room s queue at v stuck found room same =
-      let test = λ (v : ℕ). (queue_of S v == queue) && pends (λ place. is_inactive place at) (pending_at s v) in
-      let first =
-      some-first (pending_before s) test (length S.works) (first_inactive S s queue at)
-      (first_below-is_first (pending_before s) test (length S.works) (by_least-order (λ v. pending_stamp (pending_at s v)))) w (found ∙ ap Some (sym same)) in
-      let of_queue : queue_of S w ≡ queue = eqb-true (queue_of S w) queue (and_parts (queue_of S w == queue) (pends (λ place. is_inactive place at) (pending_at s w)) first.1).0 in
+      let of_queue : queue_of S w ≡ queue = eqb-true (queue_of S w) queue (activated-fits S s queue at w (found ∙ ap Some (sym same))).0 in
       let none : limit S s queue ≡ 0 = ap (limit S s) (sym of_queue) ∙ stuck.none in
       let more : active S s queue at < limit S s queue = ltb-true (active S s queue at) (limit S s queue) room in
       omega arith

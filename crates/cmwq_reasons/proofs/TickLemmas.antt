@@ -3,7 +3,7 @@ use Rattle.std.proofs.Common.{◌≡◌, ◌⊎◌, ℕ, zero, suc, ◌+◌, ◌
 use Rattle.std.proofs.lemmas.Bool.{cases_Bool, lt-ltb}
 use Rattle.std.specs.Prelude.{is_some, nat_lt, slice_index_or}
 use Rattle.cmwq_types.specs.Contents.{ScenarioContents}
-use Rattle.cmwq_types.specs.First.{MatchFirst, by_least, by_least_two}
+use Rattle.cmwq_types.specs.First.{by_least, by_least_two}
 use Rattle.cmwq_types.specs.Scenario.{pool_count}
 use Rattle.cmwq_types.specs.declared.instr.Instr.TheVariants as instr
 use Rattle.cmwq_types.specs.declared.moves.Move.{Move}
@@ -15,13 +15,13 @@ use Rattle.cmwq_types.specs.declared.reply.Refusal.{Refusal}
 use Rattle.cmwq_types.specs.declared.reply.Refusal.TheVariants.{Spent, Unsettled}
 use Rattle.cmwq_types.specs.declared.reply.Reply.{Reply}
 use Rattle.cmwq_types.specs.declared.reply.Reply.TheVariants as reply
-use Rattle.cmwq_types.proofs.FirstLemmas.{by_least-order, first_below-is_first}
 use Rattle.cmwq_table.specs.declared.state.Pending.{Pending}
 use Rattle.cmwq_table.specs.declared.state.Running.{Running}
 use Rattle.cmwq_table.specs.State.{State, is_unbound, pending_at, running_at}
 use Rattle.cmwq_table.specs.Counts.{burns, first_due, is_due, or_else, pending_due, pending_stamp}
 use Rattle.cmwq_table.specs.Laws.{placed_in, reply_to, state_after}
 use Rattle.cmwq_table.specs.Moves.{burned, first_moving, next_move, one_less, tick}
+use Rattle.cmwq_table.proofs.Choosing.{moving-is_first}
 use Rattle.cmwq_table.specs.Table.{answer, effect, refusal, spent_all, table, unsettled}
 use Rattle.cmwq_reasons.specs.declared.reason.Instance.{Instance}
 use Rattle.cmwq_reasons.specs.declared.reason.Instance.TheVariants as instance
@@ -35,10 +35,6 @@ use Rattle.cmwq_reasons.proofs.PendingRows.{PlaceRow, place-row}
 use Rattle.cmwq_reasons.proofs.RunningRows.{RunRow, burns-from, burns-parts, burns-to, run-row}
 
 -- Which pool moves.
-
-moving-first : (S : ScenarioContents) (s : State)
-    → MatchFirst (by_least (λ pool. pool)) (λ pool. is_some (next_move S s pool)) (pool_count S) (first_moving S s)
-moving-first S s = first_below-is_first (by_least (λ pool. pool)) (λ pool. is_some (next_move S s pool)) (pool_count S) (by_least-order (λ pool. pool))
 
 moved-some : (o : Option Move) (x : Instance) → moved_by o ≡ Some x → is_some o ≡ true
 moved-some (Some move) x e = refl
@@ -92,7 +88,7 @@ due-moment S s w found =
 
 pool-moment : (S : ScenarioContents) (s : State) (pool : ℕ) → first_moving S s ≡ Some pool → HasMoment S s
 pool-moment S s pool found =
-    let first = some-first (by_least (λ pool. pool)) (λ pool. is_some (next_move S s pool)) (pool_count S) (first_moving S s) (moving-first S s) pool found in
+    let first = some-first (by_least (λ pool. pool)) (λ pool. is_some (next_move S s pool)) (pool_count S) (first_moving S s) (moving-is_first S s) pool found in
     let x = some-moved (next_move S s pool) first.1 in
     let says : SaysNext S s pool x.0 = moved-says S s pool x.0 x.1 in (
       x.0,
@@ -158,7 +154,7 @@ by-timer None moving w e = cc
 
 moving-some : (S : ScenarioContents) (s : State) (pool : ℕ) (x : Instance) → pool < pool_count S → mover S s pool ≡ Some x → first_moving S s ≡ None → ⊥
 moving-some S s pool x within moves none =
-    none-first (by_least (λ pool. pool)) (λ pool. is_some (next_move S s pool)) (pool_count S) (first_moving S s) (moving-first S s) none pool within
+    none-first (by_least (λ pool. pool)) (λ pool. is_some (next_move S s pool)) (pool_count S) (first_moving S s) (moving-is_first S s) none pool within
     (moved-some (next_move S s pool) x moves)
 
 stirs-unsettled : (S : ScenarioContents) (s : State) → Stirs S s → (cause : Cause) × (unsettled (first_due S s) (first_moving S s) ≡ Some (Unsettled cause))
