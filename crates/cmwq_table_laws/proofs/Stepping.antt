@@ -6,7 +6,7 @@ use Rattle.cmwq_types.specs.declared.instr.Instr.{Instr}
 use Rattle.cmwq_types.specs.declared.instr.Instr.TheVariants as instr
 use Rattle.cmwq_types.specs.declared.instr.WorkId.{WorkId}
 use Rattle.cmwq_types.specs.declared.moves.Move.{Move}
-use Rattle.cmwq_types.specs.declared.moves.Move.TheVariants.{Advance, Wake, Start, Defer, Rescue}
+use Rattle.cmwq_types.specs.declared.moves.Move.TheVariants.{Advance}
 use Rattle.cmwq_types.specs.declared.reply.Event.{Event}
 use Rattle.cmwq_types.specs.declared.reply.Event.TheVariants as event
 use Rattle.cmwq_types.specs.declared.reply.Reply.{Reply}
@@ -15,7 +15,7 @@ use Rattle.cmwq_types.specs.declared.scenario.Op.{Op}
 use Rattle.cmwq_types.specs.declared.scenario.Op.TheVariants as op
 use Rattle.cmwq_table.specs.Counts.{first_due, is_deferred}
 use Rattle.cmwq_table.specs.Laws.{reply_to, state_after}
-use Rattle.cmwq_table.specs.Moves.{advance, begin_again, carry_out, come_to_end, delay_from_body, first_moving, mod_from_body, next_move, onward, queue_from_body, retire}
+use Rattle.cmwq_table.specs.Moves.{advance, begin_again, carry_out, come_to_end, delay_from_body, first_moving, mod_from_body, moved, moved_work, next_move, onward, queue_from_body, retire}
 use Rattle.cmwq_table.specs.State.{State, is_disabled, pending_at, running_at}
 use Rattle.cmwq_table.specs.Table.{effect, next, step_or_tick, stepped}
 use Rattle.cmwq_table.specs.declared.state.Pending.{Pending}
@@ -81,24 +81,22 @@ asks_or_fires e = false
 -- Such an event of a step is that of the operation of a body. If what holds then holds of what the operation leaves pending, it holds of the state after the step.
 module _ (S : ScenarioContents) (s : State) (work : WorkId) (e : Event) (asks : asks_or_fires e ≡ true) (Q : List (Option Pending) → Type 0)
     (carries : (r : Running) (o : Op) → running_at s work.0 ≡ Some r → op_at S work.0 r.pc ≡ o → Says e o → (carry_out S s work.0 r o).1 ≡ e → Q (carry_out S s work.0 r o).0.pending) where
-  never : (x : Event) → asks_or_fires x ≡ false → e ≡ x → ⊥
-  never x other is = (let no : true ≡ false = sym asks ∙ ap asks_or_fires is ∙ other in cc)
-
   advances : (o : Option Running) → running_at s work.0 ≡ o → (advance S s work.0 o).1 ≡ e → Q (advance S s work.0 o).0.pending
   advances (Some r) is told =
       let o = op_at S work.0 r.pc in
       carries r o is refl (subst (λ (x : Event). Says x o) told (says S s work.0 r o)) told
-  advances None is told = absurd (never event.Finishes refl (sym told))
+  advances None is told = (let no : false ≡ true = ap asks_or_fires told ∙ asks in absurd cc)
+
+  moves : (pool : ℕ) (move : Move) → moved_work move ≡ work → (moved S s pool move).1 ≡ e → Q (moved S s pool move).0.pending
+  moves pool (Advance v) same =
+      subst (λ (x : WorkId). (advance S s x.0 (running_at s x.0)).1 ≡ e → Q (advance S s x.0 (running_at s x.0)).0.pending) (sym same) (advances (running_at s work.0) refl)
+  moves pool move same = λ told. (let no : false ≡ true = ap asks_or_fires told ∙ asks in absurd cc)
 
   at-step : (pool : ℕ) (o : Option Move) → (stepped S s pool o).1 ≡ reply.Event work e → Q (stepped S s pool o).0.pending
-  at-step pool (Some (Advance v)) told =
-      let same : work ≡ v = cc in
-      let does : (advance S s v.0 (running_at s v.0)).1 ≡ e = cc in
-      subst (λ (x : WorkId). (advance S s x.0 (running_at s x.0)).1 ≡ e → Q (advance S s x.0 (running_at s x.0)).0.pending) same (advances (running_at s work.0) refl) does
-  at-step pool (Some (Wake v)) told = (let is : e ≡ event.Wakes = cc in absurd (never event.Wakes refl is))
-  at-step pool (Some (Start v)) told = (let is : e ≡ event.Starts = cc in absurd (never event.Starts refl is))
-  at-step pool (Some (Defer v)) told = (let is : e ≡ event.Defers = cc in absurd (never event.Defers refl is))
-  at-step pool (Some (Rescue v)) told = (let is : e ≡ event.StartsOnRescuer = cc in absurd (never event.StartsOnRescuer refl is))
+  at-step pool (Some move) told =
+      let same : moved_work move ≡ work = cc in
+      let does : (moved S s pool move).1 ≡ e = cc in
+      moves pool move same does
   at-step pool None told = absurd cc
 
   pub at-move : (o : Option ℕ) → (step_or_tick S s o).1 ≡ reply.Event work e → Q (step_or_tick S s o).0.pending
