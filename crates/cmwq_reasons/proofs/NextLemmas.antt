@@ -1,10 +1,11 @@
 -- The instance that a pool's next move moves says that it is next, and the step of the pool moves it.
-use Rattle.std.proofs.Common.{◌≡◌, ℕ, ◌<◌, Bool, true, false, cond, ◌&&◌, length, Option, Some, None, refl, sym, ap, ◌∙◌, subst}
-use Rattle.std.proofs.lemmas.Bool.{and_parts, eqb-true, lt-ltb}
+use Rattle.std.proofs.Common.{◌≡◌, ℕ, ◌<◌, Bool, true, false, cond, ◌&&◌, ◌||◌, length, Option, Some, None, refl, sym, ap, ◌∙◌, subst}
+use Rattle.std.proofs.lemmas.Bool.{and_parts, eqb-true, lt-ltb, or_right}
 use Rattle.std.specs.Prelude.{◌==◌, nat_lt}
 use Rattle.cmwq_types.specs.Contents.{ScenarioContents}
 use Rattle.cmwq_types.specs.First.{by_least_two}
 use Rattle.cmwq_types.specs.Scenario.{pool_count}
+use Rattle.cmwq_types.specs.declared.instr.Instr.{Instr}
 use Rattle.cmwq_types.specs.declared.instr.Instr.TheVariants as instr
 use Rattle.cmwq_types.specs.declared.instr.WorkId.{WorkId}
 use Rattle.cmwq_types.specs.declared.moves.Move.{Move}
@@ -24,7 +25,7 @@ use Rattle.cmwq_table.specs.Laws.{placed_in, reply_to}
 use Rattle.cmwq_table.specs.Changes.{HasSlept, IsReady, IsToTake, MoveFits, ready_in, slept_in}
 use Rattle.cmwq_table.proofs.Choosing.{next_move-fits}
 use Rattle.cmwq_table.specs.Moves.{moved, moved_work, next_move}
-use Rattle.cmwq_table.specs.Table.{answer, effect, fired_first, nothing_to_do, refusal, refuse_unless, spent_all, stepped, table}
+use Rattle.cmwq_table.specs.Table.{answer, effect, fired_first, is_free, nothing_to_do, operands, refusal, refuse_unless, situation, spent_all, stepped, table}
 use Rattle.cmwq_reasons.specs.declared.reason.Instance.{Instance}
 use Rattle.cmwq_reasons.specs.declared.reason.Instance.TheVariants as instance
 use Rattle.cmwq_reasons.specs.declared.reason.Reason.{Reason}
@@ -178,30 +179,39 @@ is_next_to_move S s pool x = (says-moved S s pool x, moved-says S s pool x)
 
 -- The step moves it.
 
-abbrev step-reply : ScenarioContents → State → ℕ → Option Move → Reply
-step-reply S s pool (Some move) = reply.Event (moved_work move) (moved S s pool move).1
-step-reply S s pool None = reply.Refused NothingToDo
+-- the reply is the refusal, if there is one, and else that of the effect
+abbrev pub reply-of : Option Refusal → Reply → Reply
+reply-of (Some why) told = reply.Refused why
+reply-of None told = told
 
-pub accepted : (b : Bool) (why : Refusal) → b ≡ true → refuse_unless b why ≡ None
+answered : (S : ScenarioContents) (s : State) (i : Instr) (o : Option Refusal) (after : State × Reply) → (answer S s i o after).1 ≡ reply-of o after.1
+answered S s i (Some why) after = refl
+answered S s i None after = refl
+
+pub replies : (S : ScenarioContents) (s : State) (i : Instr) → reply_to S s i ≡ reply-of (refusal S s i) (effect S s i).1
+unfolding table
+replies S s i = answered S s i (refusal S s i) (effect S s i)
+
+accepted : (b : Bool) (why : Refusal) → b ≡ true → refuse_unless b why ≡ None
 accepted true why e = refl
 accepted false why e = cc
 
-pub neither : (a b c : Option Refusal) → a ≡ None → b ≡ None → or_else a (or_else b c) ≡ c
+neither : (a b c : Option Refusal) → a ≡ None → b ≡ None → or_else a (or_else b c) ≡ c
 neither (Some x) b c first second = cc
 neither None (Some x) c first second = cc
 neither None None c first second = refl
 
-answered : (S : ScenarioContents) (s : State) (pool : ℕ) (o : Option Move) → (answer S s (instr.Step pool) (nothing_to_do o) (stepped S s pool o)).1 ≡ step-reply S s pool o
-answered S s pool (Some move) = refl
-answered S s pool None = refl
+-- while steps are left, only the situation refuses what has fit operands
+pub replies-by : (S : ScenarioContents) (s : State) (i : Instr) → s.spent < S.steps → operands S s i ≡ None → reply_to S s i ≡ reply-of (situation S s i) (effect S s i).1
+replies-by S s i more fit =
+    let left = accepted (is_free S s i || nat_lt s.spent S.steps) Spent (or_right (is_free S s i) (nat_lt s.spent S.steps) (lt-ltb s.spent S.steps more)) in
+    replies S s i ∙ ap (λ (o : Option Refusal). reply-of o (effect S s i).1) (neither (operands S s i) (spent_all S s i) (situation S s i) fit left)
+
+abbrev step-reply : ScenarioContents → State → ℕ → Option Move → Reply
+step-reply S s pool o = reply-of (nothing_to_do o) (stepped S s pool o).1
 
 steps : (S : ScenarioContents) (s : State) (pool : ℕ) → s.spent < S.steps → pool < pool_count S → reply_to S s (instr.Step pool) ≡ step-reply S s pool (next_move S s pool)
-unfolding table
-steps S s pool more there =
-    let judged : refusal S s (instr.Step pool) ≡ nothing_to_do (next_move S s pool) =
-    neither (refuse_unless (nat_lt pool (pool_count S)) NoSuchPool) (spent_all S s (instr.Step pool)) (nothing_to_do (next_move S s pool))
-    (accepted (nat_lt pool (pool_count S)) NoSuchPool (lt-ltb pool (pool_count S) there)) (accepted (nat_lt s.spent S.steps) Spent (lt-ltb s.spent S.steps more)) in
-    ap (λ (o : Option Refusal). (answer S s (instr.Step pool) o (effect S s (instr.Step pool))).1) judged ∙ answered S s pool (next_move S s pool)
+steps S s pool more there = replies-by S s (instr.Step pool) more (accepted (nat_lt pool (pool_count S)) NoSuchPool (lt-ltb pool (pool_count S) there))
 
 -- a move's event is one of the instance that it moves
 tells-moved : (S : ScenarioContents) (s : State) (pool : ℕ) (move : Move) → instance_of (moved_work move) (moved S s pool move).1 ≡ moved_instance move
@@ -237,20 +247,8 @@ is_moved_next S s more pool x there =
 
 -- The timer that fires next.
 
-abbrev fire-reply : Option ℕ → Reply
-fire-reply (Some w) = reply.Event (record { 0 = w }) event.Fires
-fire-reply None = reply.Refused NothingToDo
-
-fires-answered : (S : ScenarioContents) (s : State) (o : Option ℕ) → (answer S s instr.Fire (nothing_to_do o) (fired_first S s o)).1 ≡ fire-reply o
-fires-answered S s (Some w) = refl
-fires-answered S s None = refl
-
-fires : (S : ScenarioContents) (s : State) → s.spent < S.steps → reply_to S s instr.Fire ≡ fire-reply (first_due S s)
-unfolding table
-fires S s more =
-    let judged : refusal S s instr.Fire ≡ nothing_to_do (first_due S s) =
-    neither None (spent_all S s instr.Fire) (nothing_to_do (first_due S s)) refl (accepted (nat_lt s.spent S.steps) Spent (lt-ltb s.spent S.steps more)) in
-    ap (λ (o : Option Refusal). (answer S s instr.Fire o (effect S s instr.Fire)).1) judged ∙ fires-answered S s (first_due S s)
+abbrev fire-reply : ScenarioContents → State → Option ℕ → Reply
+fire-reply S s o = reply-of (nothing_to_do o) (fired_first S s o).1
 
 says-due : (S : ScenarioContents) (s : State) (w : ℕ) (o : Option Pending) → w < length S.works → pending_at s w ≡ o
     → reason_if_pending S s w o ≡ Some reason.FiresNext → first_due S s ≡ Some w
@@ -266,14 +264,14 @@ due-says S s w found =
     let pend = pends-some (λ place. is_due place s.time) (pending_at s w.0) first.1 in
     (ap (reason_if_pending S s w.0) pend.1 ∙ ap Some (fires_next-to S s w.0 pend.0.place (pend.2, found)), first.0)
 
-fire-is : (o : Option ℕ) (w : WorkId) → fire-reply o ≡ reply.Event w event.Fires → o ≡ Some w.0
-fire-is (Some v) w e = (let same : record { 0 = v } ≡ w = cc in ap (λ (x : WorkId). Some x.0) same)
-fire-is None w e = cc
+fire-is : (S : ScenarioContents) (s : State) (o : Option ℕ) (w : WorkId) → fire-reply S s o ≡ reply.Event w event.Fires → o ≡ Some w.0
+fire-is S s (Some v) w e = (let same : record { 0 = v } ≡ w = cc in ap (λ (x : WorkId). Some x.0) same)
+fire-is S s None w e = cc
 
 pub is_fired_next : InAnyState IsFiredNext
 unfolding IsFiredNext
 is_fired_next S s more w =
-    let told = fires S s more in (
-      λ says. told ∙ ap fire-reply (says-due S s w.0 (pending_at s w.0) says.1 refl says.0),
-      λ fired. due-says S s w (fire-is (first_due S s) w (sym told ∙ fired)),
+    let told : reply_to S s instr.Fire ≡ fire-reply S s (first_due S s) = replies-by S s instr.Fire more refl in (
+      λ says. told ∙ ap (fire-reply S s) (says-due S s w.0 (pending_at s w.0) says.1 refl says.0),
+      λ fired. due-says S s w (fire-is S s (first_due S s) w (sym told ∙ fired)),
     )

@@ -1,7 +1,7 @@
 -- Time passes where no instance could get on without it, and what burns then has one tick less left.
 use Rattle.std.proofs.Common.{◌≡◌, ◌⊎◌, ℕ, zero, suc, ◌+◌, ◌<◌, Bool, true, cond, List, [], ◌∷◌, length, Option, Some, None, arith, refl, sym, ap, ◌∙◌, subst, inl, inr}
-use Rattle.std.proofs.lemmas.Bool.{cases_Bool, lt-ltb}
-use Rattle.std.specs.Prelude.{is_some, nat_lt, slice_index_or}
+use Rattle.std.proofs.lemmas.Bool.{cases_Bool}
+use Rattle.std.specs.Prelude.{is_some, slice_index_or}
 use Rattle.cmwq_types.specs.Contents.{ScenarioContents}
 use Rattle.cmwq_types.specs.First.{by_least, by_least_two}
 use Rattle.cmwq_types.specs.Scenario.{pool_count}
@@ -12,7 +12,7 @@ use Rattle.cmwq_types.specs.declared.reply.Cause.TheVariants.{Due, Pool}
 use Rattle.cmwq_types.specs.declared.reply.Place.{Place}
 use Rattle.cmwq_types.specs.declared.reply.Place.TheVariants.{Timer, Inactive, Listed, Deferred}
 use Rattle.cmwq_types.specs.declared.reply.Refusal.{Refusal}
-use Rattle.cmwq_types.specs.declared.reply.Refusal.TheVariants.{Spent, Unsettled}
+use Rattle.cmwq_types.specs.declared.reply.Refusal.TheVariants.{Unsettled}
 use Rattle.cmwq_types.specs.declared.reply.Reply.{Reply}
 use Rattle.cmwq_types.specs.declared.reply.Reply.TheVariants as reply
 use Rattle.cmwq_table.specs.declared.state.Pending.{Pending}
@@ -30,7 +30,7 @@ use Rattle.cmwq_reasons.specs.declared.reason.Reason.TheVariants as reason
 use Rattle.cmwq_reasons.specs.Laws.{BurnsInTick, HasMoment, InAnyState, MomentsPassFirst, SaysNext, is_moment, moves_next, pool_if_pending, pool_if_running, pool_of}
 use Rattle.cmwq_reasons.specs.Reasons.{moved_by, moved_instance, mover, pending_half, reason_if_pending, reason_if_running, reason_in_place, reason_of, reason_of_running, running_half, work_of}
 use Rattle.cmwq_reasons.proofs.MoverLemmas.{due-first, is_due_now, none-first, ready-moves, some-first}
-use Rattle.cmwq_reasons.proofs.NextLemmas.{accepted, due-says, moved-says, neither, pends-some, turn-moves}
+use Rattle.cmwq_reasons.proofs.NextLemmas.{due-says, moved-says, pends-some, replies, replies-by, reply-of, turn-moves}
 use Rattle.cmwq_reasons.proofs.PendingRows.{PlaceRow, place-row}
 use Rattle.cmwq_reasons.proofs.RunningRows.{RunRow, burns-from, burns-parts, burns-to, run-row}
 
@@ -47,21 +47,7 @@ some-moved None e = cc
 -- What a tick answers.
 
 abbrev tick-reply : Option Refusal → Reply
-tick-reply (Some why) = reply.Refused why
-tick-reply None = reply.Done
-
-judged : (S : ScenarioContents) (s : State) → s.spent < S.steps → refusal S s instr.Tick ≡ unsettled (first_due S s) (first_moving S s)
-judged S s more =
-    neither None (spent_all S s instr.Tick) (unsettled (first_due S s) (first_moving S s)) refl
-    (accepted (nat_lt s.spent S.steps) Spent (lt-ltb s.spent S.steps more))
-
-answers : (S : ScenarioContents) (s : State) (o : Option Refusal) → (answer S s instr.Tick o (effect S s instr.Tick)).1 ≡ tick-reply o
-answers S s (Some why) = refl
-answers S s None = refl
-
-ticks : (S : ScenarioContents) (s : State) → reply_to S s instr.Tick ≡ tick-reply (refusal S s instr.Tick)
-unfolding table
-ticks S s = answers S s (refusal S s instr.Tick)
+tick-reply o = reply-of o reply.Done
 
 -- A moment, and what is unsettled.
 
@@ -164,7 +150,7 @@ stirs-unsettled S s (inr pool) = by-pool (first_due S s) (first_moving S s) (mov
 pub moments_pass_first : InAnyState MomentsPassFirst
 unfolding MomentsPassFirst
 moments_pass_first S s more =
-    let told : reply_to S s instr.Tick ≡ tick-reply (unsettled (first_due S s) (first_moving S s)) = ticks S s ∙ ap tick-reply (judged S s more) in (
+    let told : reply_to S s instr.Tick ≡ tick-reply (unsettled (first_due S s) (first_moving S s)) = replies-by S s instr.Tick more refl in (
       λ refused. unsettled-moment S s (first_due S s) (first_moving S s) refl refl refused.0 (sym told ∙ refused.1),
       λ moment. let found = stirs-unsettled S s (instance-stirs S s moment.0 moment.1 moment.2.0 moment.2.1 moment.3 moment.4) in
           (found.0, told ∙ ap tick-reply found.1),
@@ -226,7 +212,7 @@ spent-still S s w (suc n) r there is still burning left = omega arith
 pub burns_in_tick : InAnyState BurnsInTick
 unfolding BurnsInTick
 burns_in_tick S s done w r there is within =
-    let none : refusal S s instr.Tick ≡ None = settled (refusal S s instr.Tick) (sym (ticks S s) ∙ done) in
+    let none : refusal S s instr.Tick ≡ None = settled (refusal S s instr.Tick) (sym (replies S s instr.Tick) ∙ done) in
     let runs = tick-runs S s w r none is in (
       λ told. (let burning = burns-from S s w r (reason_of_running S s w r) (run-row S s w r there is) told in
           (burning.1, runs ∙ ap (λ (b : Bool). cond b (one_less (Some r)) (Some r)) burning.0)),
