@@ -61,16 +61,6 @@ listed-waits pool born at stamp (Some p) inactive waits = (waits.0, inr (ap List
     in_pool (inr is) = (let fails : is_inactive p.place at ≡ false = ap (λ (place : Place). is_inactive place at) is in cc)
 listed-waits pool born at stamp None inactive waits = absurd waits
 
--- who is in such a place waits in the pool, and is listed or inactive
-not-waiting : (test : Place → Bool) (pool born : ℕ) (o : Option Pending) → test (Inactive pool) ≡ false → test (Listed pool) ≡ false → pends test o ≡ true
-    → WaitsIn pool born o → ⊥
-not-waiting test pool born (Some p) inactive listed there waits = neither waits.1
-  where
-    neither : (p.place ≡ Inactive pool) ⊎ (p.place ≡ Listed pool) → ⊥
-    neither (inl is) = (let fails : test p.place ≡ false = ap test is ∙ inactive in cc)
-    neither (inr is) = (let fails : test p.place ≡ false = ap test is ∙ listed in cc)
-not-waiting test pool born None inactive listed there waits = waits
-
 -- w is one of a queue without a rescuer, and waits while memory is short in a pool that has made no worker
 record Starved (w pool born : ℕ) (s : State) : Type 0 where
   pressed : s.pressed ≡ true
@@ -78,7 +68,7 @@ record Starved (w pool born : ℕ) (s : State) : Type 0 where
   still : running_at s w ≡ None
   waits : WaitsIn pool born (pending_at s w)
 
-module _ (w pool born : ℕ) where
+module _ (S : ScenarioContents) (setting : IsSetting S) (w pool born : ℕ) (no_rescuer : (flags_at S (queue_of S w)).mem_reclaim ≡ false) where
   starved-then : (s t : State) → t.pressed ≡ s.pressed → made_at t pool ≡ made_at s pool → (running_at s w ≡ None → running_at t w ≡ None)
       → (WaitsIn pool born (pending_at s w) → WaitsIn pool born (pending_at t w)) → Starved w pool born s → Starved w pool born t
   starved-then s t pressed made still waits starved =
@@ -105,22 +95,21 @@ module _ (w pool born : ℕ) where
   runs-apart : (s : State) (v : ℕ) (r : Running) → Starved w pool born s → running_at s v ≡ Some r → w ≡ v → ⊥
   runs-apart s v r starved is same = (let still : running_at s v ≡ None = ap (running_at s) (sym same) ∙ starved.still in cc)
 
-  place-apart : (s : State) (v : ℕ) (test : Place → Bool) → Starved w pool born s → pends test (pending_at s v) ≡ true
-      → test (Inactive pool) ≡ false → test (Listed pool) ≡ false → w ≡ v → ⊥
-  place-apart s v test starved there inactive listed same =
-      not-waiting test pool born (pending_at s w) inactive listed (ap (λ (k : ℕ). pends test (pending_at s k)) same ∙ there) starved.waits
+  timer-apart : (s : State) (v due cpu : ℕ) (q : Pending) → Starved w pool born s → pending_at s v ≡ Some q → q.place ≡ Timer due cpu → w ≡ v → ⊥
+  timer-apart s v due cpu q starved is at same =
+      let waits : WaitsIn pool born (Some q) = subst (WaitsIn pool born) (ap (pending_at s) same ∙ is) starved.waits in
+      elim waits.1 [ inl inactive ↦ cc | inr listed ↦ cc ]
 
   none-apart : (s : State) (v : ℕ) → Starved w pool born s → pending_at s v ≡ None → w ≡ v → ⊥
   none-apart s v starved none same = subst (WaitsIn pool born) (ap (pending_at s) same ∙ none) starved.waits
 
-module _ (S : ScenarioContents) (setting : IsSetting S) (w pool born : ℕ) (no_rescuer : (flags_at S (queue_of S w)).mem_reclaim ≡ false) where
   -- Filling.
 
   fills-starved : (s t : State) → Fills S s t → Starved w pool born s → Starved w pool born t
   fills-starved s t Fills.stays starved = starved
   fills-starved s t (Fills.more u queue at v filling first room) starved =
       let before = fills-starved s u filling starved in
-      starved-then w pool born u t refl refl (λ is. is)
+      starved-then u t refl refl (λ is. is)
       (λ waits. set-kept (WaitsIn pool born) u.pending v w (listed_at at u.next (pending_at u v))
       (λ same. listed-waits pool born at u.next (pending_at u v) (activated-fits S u queue at v first).1 (subst (λ (k : ℕ). WaitsIn pool born (pending_at u k)) (sym same) waits)) waits)
       before
@@ -129,13 +118,13 @@ module _ (S : ScenarioContents) (setting : IsSetting S) (w pool born : ℕ) (no_
 
   turn-starved : (s t : State) (v : ℕ) (took put : Bool) → Turn S s v took put t → (took ≡ true → w ≡ v → ⊥) → Starved w pool born s → Starved w pool born t
   turn-starved s t v took put (Turn.fills u filling) apart starved = fills-starved s u filling starved
-  turn-starved s t v took put (Turn.puts cpu ticks may enabled none) apart starved = other-starved w pool born s v (s.next + 1) _ (none-apart w pool born s v starved none) starved
+  turn-starved s t v took put (Turn.puts cpu ticks may enabled none) apart starved = other-starved s v (s.next + 1) _ (none-apart s v starved none) starved
   turn-starved s t v took put (Turn.fires q due cpu is at) apart starved =
-      let other = place-apart w pool born s v (λ place. not (is_placed place)) starved (ap (pends (λ place. not (is_placed place))) is ∙ ap (λ (place : Place). not (is_placed place)) at) refl refl in
-      other-starved w pool born (with_pending s v None) v (s.next + 1) _ other (other-starved w pool born s v s.next None other starved)
-  turn-starved s t v took put (Turn.takes q u is filling) apart starved = fills-starved (with_pending s v None) u filling (other-starved w pool born s v s.next None (apart refl) starved)
+      let other = timer-apart s v due cpu q starved is at in
+      other-starved (with_pending s v None) v (s.next + 1) _ other (other-starved s v s.next None other starved)
+  turn-starved s t v took put (Turn.takes q u is filling) apart starved = fills-starved (with_pending s v None) u filling (other-starved s v s.next None (apart refl) starved)
   turn-starved s t v took put (Turn.changes q u cpu ticks may enabled is filling) apart starved =
-      other-starved w pool born u v (u.next + 1) _ (apart refl) (fills-starved (with_pending s v None) u filling (other-starved w pool born s v s.next None (apart refl) starved))
+      other-starved u v (u.next + 1) _ (apart refl) (fills-starved (with_pending s v None) u filling (other-starved s v s.next None (apart refl) starved))
 
   -- the pool has no worker, and makes none
   none-free : (s : State) → IsStaffed S s → Starved w pool born s → free_worker S s pool ≡ None
@@ -164,7 +153,7 @@ module _ (S : ScenarioContents) (setting : IsSetting S) (w pool born : ℕ) (no_
   starts-starved s at v worker q staffed free listed starved =
       let away : pool ≡ at → ⊥ = λ same. (let no : None ≡ Some worker = sym (none-free s staffed starved) ∙ ap (free_worker S s) same ∙ free in cc) in
       let apart : w ≡ v → ⊥ = λ same. away (listed-here at (pending_at s w) (ap (λ (k : ℕ). pends (λ place. is_listed place at) (pending_at s k)) same ∙ listed) starved.waits) in
-      starved-then w pool born s (started_on s at v worker q) refl (get_or-set_other s.made at pool (cond (worker == made_at s at) (worker + 1) (made_at s at)) 0 away)
+      starved-then s (started_on s at v worker q) refl (get_or-set_other s.made at pool (cond (worker == made_at s at) (worker + 1) (made_at s at)) 0 away)
       (λ is. get_or-set_other s.running v w (Some (begun q.born at worker s.next)) None apart ∙ is)
       (λ is. set-kept (WaitsIn pool born) s.pending v w None (λ same. absurd (apart (sym same))) is) starved
 
@@ -182,21 +171,21 @@ module _ (S : ScenarioContents) (setting : IsSetting S) (w pool born : ℕ) (no_
   acts-starved : (s t : State) (at : ℕ) (move : Move) (e : Event) → MoveFits S s at move → (taken_off_in e ≡ Some w → ⊥) → IsStaffed S s → Acts S s at move e t
       → Starved w pool born s → Starved w pool born t
   acts-starved s t at move e fits left staffed (Acts.starts v worker q free is) starved = starts-starved s at v.0 worker q staffed free fits.0.taken.listed starved
-  acts-starved s t at move e fits left staffed (Acts.rescues v q is) starved = begun-starved w pool born s v.0 at RESCUER q (reclaims-not s v.0 fits.1) starved
+  acts-starved s t at move e fits left staffed (Acts.rescues v q is) starved = begun-starved s v.0 at RESCUER q (reclaims-not s v.0 fits.1) starved
   acts-starved s t at move e fits left staffed (Acts.defers v q is) starved =
-      other-starved w pool born s v.0 s.next _ (λ same. runs-some (running_at s v.0) fits.1 (ap (running_at s) (sym same) ∙ starved.still)) starved
-  acts-starved s t at move e fits left staffed (Acts.wakes v r is) starved = run-starved w pool born s v.0 (s.next + 1) _ s.idle (runs-apart w pool born s v.0 r starved is) starved
-  acts-starved s t at move e fits left staffed (Acts.burns v r ticks is named) starved = run-starved w pool born s v.0 s.next _ s.idle (runs-apart w pool born s v.0 r starved is) starved
-  acts-starved s t at move e fits left staffed (Acts.sleeps v r ticks is named) starved = run-starved w pool born s v.0 s.next _ s.idle (runs-apart w pool born s v.0 r starved is) starved
+      other-starved s v.0 s.next _ (λ same. runs-some (running_at s v.0) fits.1 (ap (running_at s) (sym same) ∙ starved.still)) starved
+  acts-starved s t at move e fits left staffed (Acts.wakes v r is) starved = run-starved s v.0 (s.next + 1) _ s.idle (runs-apart s v.0 r starved is) starved
+  acts-starved s t at move e fits left staffed (Acts.burns v r ticks is named) starved = run-starved s v.0 s.next _ s.idle (runs-apart s v.0 r starved is) starved
+  acts-starved s t at move e fits left staffed (Acts.sleeps v r ticks is named) starved = run-starved s v.0 s.next _ s.idle (runs-apart s v.0 r starved is) starved
   acts-starved s t at move e fits left staffed (Acts.asks v r o e1 u took put x is named asking turn) starved =
       turn-starved (onward s v.0 r) x u took put turn (took-apart w u took (taken_off_in e) asking.takes left)
-      (run-starved w pool born s v.0 s.next _ s.idle (runs-apart w pool born s v.0 r starved is) starved)
+      (run-starved s v.0 s.next _ s.idle (runs-apart s v.0 r starved is) starved)
   acts-starved s t at move e fits left staffed (Acts.ends v r u is named none filling) starved =
-      let apart = runs-apart w pool born s v.0 r starved is in
+      let apart = runs-apart s v.0 r starved is in
       fills-starved (retire s v.0 r) u filling
-      (retired (Starved w pool born) s v.0 r (run-starved w pool born s v.0 s.next None s.idle apart starved) (run-starved w pool born s v.0 (s.next + 1) None (become_idle s v.0 r).idle apart starved))
+      (retired (Starved w pool born) s v.0 r (run-starved s v.0 s.next None s.idle apart starved) (run-starved s v.0 (s.next + 1) None (become_idle s v.0 r).idle apart starved))
   acts-starved s t at move e fits left staffed (Acts.again v r q u is named some deferred filling) starved =
-      fills-starved (begin_again s v.0 r q) u filling (begun-starved w pool born s v.0 r.pool r.worker q (runs-apart w pool born s v.0 r starved is) starved)
+      fills-starved (begin_again s v.0 r q) u filling (begun-starved s v.0 r.pool r.worker q (runs-apart s v.0 r starved is) starved)
 
   -- Instructions.
 
@@ -213,16 +202,16 @@ module _ (S : ScenarioContents) (setting : IsSetting S) (w pool born : ℕ) (no_
   effect-starved : (s t : State) (i : Instr) (r : Reply) → is_move i ≡ true → (cancelled_by i r ≡ Some w → ⊥) → IsStaffed S s → Effect S s i t r → Starved w pool born s → Starved w pool born t
   effect-starved s t i r move left staffed (Effect.acts at m e u shallow there is fits acting) starved = acts-starved s u at m e fits left staffed acting starved
   effect-starved s t i r move left staffed (Effect.fires v u shallow due turn) starved = turn-starved s u v false false turn (λ no. cc) starved
-  effect-starved s t i r move left staffed (Effect.passes shallow due moving) starved = starved-then w pool born s t refl refl (λ is. still-burned (burns S s) 0 s.running w is) (λ is. is) starved
+  effect-starved s t i r move left staffed (Effect.passes shallow due moving) starved = starved-then s t refl refl (λ is. still-burned (burns S s) 0 s.running w is) (λ is. is) starved
   effect-starved s t i r move left staffed (Effect.answers b u v took put told set turn answer) starved =
       turn-starved b u v took put turn (took-apart w v took (cancelled_by i told) answer.takes left) (subst (Starved w pool born) (sym (move-sets s b i move set)) starved)
   effect-starved s t i r move left staffed (Effect.gives u v took put f told shallow turn answer) starved =
-      starved-then w pool born u t refl refl (λ is. is) (λ is. is) (turn-starved s u v took put turn (took-apart w v took (cancelled_by i told) answer.takes left) starved)
+      starved-then u t refl refl (λ is. is) (λ is. is) (turn-starved s u v took put turn (took-apart w v took (cancelled_by i told) answer.takes left) starved)
 
   does-starved : (s t : State) (i : Instr) (r : Reply) → is_move i ≡ true → (cancelled_by i r ≡ Some w → ⊥) → IsStaffed S s → Does S s i t r → Starved w pool born s → Starved w pool born t
   does-starved s t i r move left staffed (Does.refused why) starved = starved
   does-starved s t i r move left staffed (Does.done u told spent fits effect) starved =
-      starved-then w pool born u t refl refl (λ is. is) (λ is. is) (effect-starved s u i told move left staffed effect starved)
+      starved-then u t refl refl (λ is. is) (λ is. is) (effect-starved s u i told move left staffed effect starved)
 
   all-starved : NoBodyTakesOff S w → (s : State) (later : List Instr) → IsStaffed S s → Starved w pool born s → AreMoves later → Starved w pool born (after_all S s later)
   all-starved left_alone s [] staffed starved moves = starved
