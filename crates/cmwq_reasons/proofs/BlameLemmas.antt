@@ -19,7 +19,8 @@ use Rattle.cmwq_reasons.specs.declared.reason.Reason.TheVariants as reason
 use Rattle.cmwq_reasons.specs.Laws.{BlamesWhoIsThere, EndsBlame, HeldNamesCounted, InactiveNamesActive, IsAmong, IsThere, NoWorkerNamesAll, waits_for_nobody}
 use Rattle.cmwq_reasons.specs.Reasons.{causes, counted_works, deferred_holders, holders, lacks_memory, listed_holders, mover, pending_half, pending_holders, pending_works, reason_if_pending, reason_if_running, reason_in_place, reason_of_running, running_half, running_holders, running_works, works_on_pool_workers, works_on_rescuer, works_on_workers}
 use Rattle.cmwq_reasons.proofs.CountLemmas.{held_names_counted, inactive_names_active}
-use Rattle.cmwq_reasons.proofs.MoverLemmas.{is_runnable_in, runnable-first, some-first}
+use Rattle.cmwq_table.proofs.Choosing.{runnable-is_first}
+use Rattle.cmwq_reasons.proofs.MoverLemmas.{is_runnable_in, some-first}
 use Rattle.cmwq_reasons.proofs.NextLemmas.{moved-says}
 use Rattle.cmwq_reasons.proofs.NoWorkerLemmas.{no_worker_names_all}
 use Rattle.cmwq_reasons.proofs.PendingRows.{PlaceRow, place-row}
@@ -67,7 +68,7 @@ module _ (S : ScenarioContents) (s : State) where
 
   first-there : (pool w : ℕ) → first_runnable S s pool ≡ Some w → IsThere S s (running_half w)
   first-there pool w found =
-      let first = some-first (running_before s) (is_runnable_in s pool) (length S.works) (first_runnable S s pool) (runnable-first S s pool) w found in
+      let first = some-first (running_before s) (is_runnable_in s pool) (length S.works) (first_runnable S s pool) (runnable-is_first S s pool) w found in
       half-there (running_half w) w refl first.0 (runs-is_some (λ r. (r.pool == pool) && is_runnable r.mode) (running_at s w) first.1)
 
   -- who stands in a list of running works

@@ -23,7 +23,8 @@ use Rattle.cmwq_reasons.specs.declared.reason.Reason.TheVariants as reason
 use Rattle.cmwq_reasons.specs.Laws.{HeldNamesCounted, InAnyState, InactiveNamesActive, NoWorkerIsFree}
 use Rattle.cmwq_reasons.specs.Reasons.{causes, counted_works, deferred_holders, holders, listed_holders, pending_half, pending_holders, pending_works, reason_in_place, running_half, running_holders, running_works}
 use Rattle.cmwq_reasons.proofs.BelowLemmas.{bit, count-split}
-use Rattle.cmwq_reasons.proofs.MoverLemmas.{is_listed_in, listed-first, none-first}
+use Rattle.cmwq_table.proofs.Choosing.{listed-is_first}
+use Rattle.cmwq_reasons.proofs.MoverLemmas.{is_listed_in, none-first}
 use Rattle.cmwq_reasons.proofs.PendingRows.{held-from, inactive-from, no_worker-from, place-row}
 use Rattle.cmwq_reasons.proofs.RunningRows.{not-zero}
 
@@ -138,7 +139,7 @@ not-first : (S : ScenarioContents) (s : State) (pool w : ℕ) (worker o : Option
     → first_listed S s pool ≡ o → start_first s o worker ≡ None → worker ≡ None
 not-first S s pool w worker (Some m) there listed first e = not-taken m (running_at s m) worker e
 not-first S s pool w worker None there listed first e =
-    absurd (none-first (pending_before s) (is_listed_in s pool) (length S.works) (first_listed S s pool) (listed-first S s pool) first w there listed)
+    absurd (none-first (pending_before s) (is_listed_in s pool) (length S.works) (first_listed S s pool) (listed-is_first S s pool) first w there listed)
 
 pub no-start : (S : ScenarioContents) (s : State) (pool : ℕ) → next_move S s pool ≡ None → start_move S s pool ≡ None
 no-start S s pool e =

@@ -11,6 +11,7 @@ pub mod PendingRows
 pub mod RankLemmas
 pub mod RestLemmas
 pub mod RunningRows
+pub mod Saying
 pub mod ThawLemmas
 pub mod StaffLemmas
 pub mod TickLemmas

@@ -1,17 +1,19 @@
 -- What a pool's next move says of the instance that it moves, and which instances are sure that there is one.
 use Rattle.std.proofs.Common.{◌≡◌, ℕ, ◌<◌, Bool, true, false, cond, ◌&&◌, length, Option, Some, None, refl, ap, ◌∙◌, subst}
-use Rattle.std.proofs.lemmas.Bool.{and_from, cond-true, eq-eqb, eqb-true}
-use Rattle.std.specs.Prelude.{is_some, ◌==◌}
+use Rattle.std.proofs.lemmas.Bool.{and_from, and_parts, cond-true, eq-eqb, eqb-true}
+use Rattle.std.specs.Prelude.{◌==◌}
 use Rattle.cmwq_types.specs.Contents.{ScenarioContents}
+use Rattle.cmwq_types.specs.Scenario.{queue_of}
 use Rattle.cmwq_types.specs.First.{MatchFirst, by_least_two}
 use Rattle.cmwq_types.specs.declared.instr.WorkId.{WorkId}
 use Rattle.cmwq_types.specs.declared.moves.Move.{Move}
-use Rattle.cmwq_types.specs.declared.moves.Move.TheVariants.{Advance, Wake, Start, Defer, Rescue}
+use Rattle.cmwq_types.specs.declared.moves.Move.TheVariants.{Advance, Wake, Rescue}
 use Rattle.cmwq_types.specs.declared.reply.Mode.TheVariants.{Runnable}
 use Rattle.cmwq_types.proofs.FirstLemmas.{by_least-order, by_least_two-order, first_below-is_first}
 use Rattle.cmwq_table.specs.declared.state.Running.{Running}
 use Rattle.cmwq_table.specs.State.{State, is_unbound, pending_at, running_at}
-use Rattle.cmwq_table.specs.Counts.{can_be_rescued, first_due, first_listed, first_ready, first_rescued, first_runnable, first_slept, free_worker, if_ready, is_due, is_listed, is_runnable, is_slept, may_start, or_else, pending_before, pending_due, pending_stamp, pends, ready_head, running_before, running_stamp, running_until, runs}
+use Rattle.cmwq_table.specs.Counts.{first_due, first_inactive, first_listed, first_ready, first_rescued, first_runnable, first_slept, free_worker, if_ready, is_due, is_inactive, is_listed, is_runnable, is_slept, may_start, or_else, pending_before, pending_due, pending_stamp, pends, ready_head, running_before, runs}
+use Rattle.cmwq_table.proofs.Choosing.{ready-is_first, runnable-is_first, slept-is_first, slept_before}
 use Rattle.cmwq_table.specs.Moves.{as_move, next_move, start_first, start_move, start_or_rescue, take_listed}
 use Rattle.cmwq_reasons.specs.declared.reason.Instance.{Instance}
 use Rattle.cmwq_reasons.specs.declared.reason.Instance.TheVariants as instance
@@ -60,38 +62,21 @@ is_listed_in s pool w = pends (λ place. is_listed place pool) (pending_at s w)
 abbrev pub is_due_now : State → ℕ → Bool
 is_due_now s w = pends (λ place. is_due place s.time) (pending_at s w)
 
-abbrev slept_before : State → ℕ → ℕ → Bool
-slept_before s = by_least_two (λ w. running_until (running_at s w)) (λ w. running_stamp (running_at s w))
-
 abbrev due_before : State → ℕ → ℕ → Bool
 due_before s = by_least_two (λ w. pending_due (pending_at s w)) (λ w. pending_stamp (pending_at s w))
-
-pub slept-first : (S : ScenarioContents) (s : State) (pool : ℕ) → MatchFirst (slept_before s) (is_slept_in s pool) (length S.works) (first_slept S s pool)
-slept-first S s pool =
-    first_below-is_first (slept_before s) (is_slept_in s pool) (length S.works)
-    (by_least_two-order (λ w. running_until (running_at s w)) (λ w. running_stamp (running_at s w)))
-
-pub runnable-first : (S : ScenarioContents) (s : State) (pool : ℕ) → MatchFirst (running_before s) (is_runnable_in s pool) (length S.works) (first_runnable S s pool)
-runnable-first S s pool =
-    first_below-is_first (running_before s) (is_runnable_in s pool) (length S.works) (by_least-order (λ w. running_stamp (running_at s w)))
-
-pub ready-first : (S : ScenarioContents) (s : State) (pool : ℕ) → MatchFirst (running_before s) (is_ready_in s pool) (length S.works) (first_ready S s pool)
-ready-first S s pool =
-    first_below-is_first (running_before s) (is_ready_in s pool) (length S.works) (by_least-order (λ w. running_stamp (running_at s w)))
-
-pub listed-first : (S : ScenarioContents) (s : State) (pool : ℕ) → MatchFirst (pending_before s) (is_listed_in s pool) (length S.works) (first_listed S s pool)
-listed-first S s pool =
-    first_below-is_first (pending_before s) (is_listed_in s pool) (length S.works) (by_least-order (λ w. pending_stamp (pending_at s w)))
-
-pub rescued-first : (S : ScenarioContents) (s : State) (pool : ℕ)
-    → MatchFirst (pending_before s) (can_be_rescued S s pool) (length S.works) (first_rescued S s pool)
-rescued-first S s pool =
-    first_below-is_first (pending_before s) (can_be_rescued S s pool) (length S.works) (by_least-order (λ w. pending_stamp (pending_at s w)))
 
 pub due-first : (S : ScenarioContents) (s : State) → MatchFirst (due_before s) (is_due_now s) (length S.works) (first_due S s)
 due-first S s =
     first_below-is_first (due_before s) (is_due_now s) (length S.works)
     (by_least_two-order (λ w. pending_due (pending_at s w)) (λ w. pending_stamp (pending_at s w)))
+
+-- a work item that is activated is inactive in the pool, and one of the queue
+pub activated-fits : (S : ScenarioContents) (s : State) (queue pool w : ℕ) → first_inactive S s queue pool ≡ Some w
+    → ((queue_of S w == queue) ≡ true) × (pends (λ place. is_inactive place pool) (pending_at s w) ≡ true)
+activated-fits S s queue pool w found =
+    let test = λ (v : ℕ). (queue_of S v == queue) && pends (λ place. is_inactive place pool) (pending_at s v) in
+    and_parts (queue_of S w == queue) (pends (λ place. is_inactive place pool) (pending_at s w))
+    (some-first (pending_before s) test (length S.works) (first_inactive S s queue pool) (first_below-is_first (pending_before s) test (length S.works) (by_least-order (λ v. pending_stamp (pending_at s v)))) w found).1
 
 -- Who is sure of a move.
 
@@ -117,7 +102,7 @@ runs-here test o r is passes = ap (runs test) is ∙ passes
 pub slept-moves : (S : ScenarioContents) (s : State) (w : ℕ) (r : Running) → w < length S.works → running_at s w ≡ Some r
     → is_slept r.mode s.time ≡ true → mover S s r.pool ≡ None → ⊥
 slept-moves S s w r there is slept e =
-    none-first (slept_before s) (is_slept_in s r.pool) (length S.works) (first_slept S s r.pool) (slept-first S s r.pool) ((still S s r.pool e).1) w there
+    none-first (slept_before s) (is_slept_in s r.pool) (length S.works) (first_slept S s r.pool) (slept-is_first S s r.pool) ((still S s r.pool e).1) w there
     (runs-here (λ q. (q.pool == r.pool) && is_slept q.mode s.time) (running_at s w) r is
     (and_from (r.pool == r.pool) (is_slept r.mode s.time) (eq-eqb r.pool r.pool refl) slept))
 
@@ -125,14 +110,14 @@ slept-moves S s w r there is slept e =
 pub runnable-some : (S : ScenarioContents) (s : State) (w : ℕ) (r : Running) → w < length S.works → running_at s w ≡ Some r → r.mode ≡ Runnable
     → first_runnable S s r.pool ≡ None → ⊥
 runnable-some S s w r there is mode e =
-    none-first (running_before s) (is_runnable_in s r.pool) (length S.works) (first_runnable S s r.pool) (runnable-first S s r.pool) e w there
+    none-first (running_before s) (is_runnable_in s r.pool) (length S.works) (first_runnable S s r.pool) (runnable-is_first S s r.pool) e w there
     (runs-here (λ q. (q.pool == r.pool) && is_runnable q.mode) (running_at s w) r is
     (and_from (r.pool == r.pool) (is_runnable r.mode) (eq-eqb r.pool r.pool refl) (ap is_runnable mode)))
 
 head-moves : (S : ScenarioContents) (s : State) (w : ℕ) (r : Running) → w < length S.works → running_at s w ≡ Some r → r.mode ≡ Runnable → r.left ≡ 0
     → (b : Bool) → (b ≡ false → first_runnable S s r.pool ≡ Some w) → cond b (first_ready S s r.pool) (if_ready s (first_runnable S s r.pool)) ≡ None → ⊥
 head-moves S s w r there is mode left true head e =
-    none-first (running_before s) (is_ready_in s r.pool) (length S.works) (first_ready S s r.pool) (ready-first S s r.pool) e w there
+    none-first (running_before s) (is_ready_in s r.pool) (length S.works) (first_ready S s r.pool) (ready-is_first S s r.pool) e w there
     (runs-here (λ q. (q.pool == r.pool) && is_runnable q.mode && (q.left == 0)) (running_at s w) r is
     (and_from ((r.pool == r.pool) && is_runnable r.mode) (r.left == 0)
     (and_from (r.pool == r.pool) (is_runnable r.mode) (eq-eqb r.pool r.pool refl) (ap is_runnable mode)) (eq-eqb r.left 0 left)))
@@ -147,67 +132,34 @@ pub ready-moves : (S : ScenarioContents) (s : State) (w : ℕ) (r : Running) →
     → mover S s r.pool ≡ None → ⊥
 ready-moves S s w r there is head left e = head-moves S s w r there is head.0 left (is_unbound S r.pool) head.1 ((still S s r.pool e).0)
 
--- What a move says.
+-- An instance that goes on is the head of its pool.
 
-abbrev pub MoveSays : ScenarioContents → State → ℕ → Move → Type 0
-MoveSays S s pool (Advance w) = ready_head S s pool ≡ Some w.0
-MoveSays S s pool (Wake w) = first_slept S s pool ≡ Some w.0
-MoveSays S s pool (Start w) = (may_start S s pool ≡ true) × (first_listed S s pool ≡ Some w.0) × (running_at s w.0 ≡ None)
-MoveSays S s pool (Defer w) = (may_start S s pool ≡ true) × (first_listed S s pool ≡ Some w.0) × (is_some (running_at s w.0) ≡ true)
-MoveSays S s pool (Rescue w) = (may_start S s pool ≡ true) × (first_rescued S s pool ≡ Some w.0)
+-- no other move is an advance
+rescues-none : (w : WorkId) (o : Option ℕ) → as_move Rescue o ≡ Some (Advance w) → ⊥
+rescues-none w (Some v) e = cc
+rescues-none w None e = cc
 
-either : (P : Type 0) (a b : Option Move) (move : Move) → or_else a b ≡ Some move → (a ≡ Some move → P) → (b ≡ Some move → P) → P
-either P (Some m) b move e left right = left e
-either P None b move e left right = right e
+takes-none : (w : WorkId) (v : ℕ) (r : Option Running) (worker rescued : Option ℕ) → or_else (take_listed v r worker) (as_move Rescue rescued) ≡ Some (Advance w) → ⊥
+takes-none w v (Some r) worker rescued e = cc
+takes-none w v None (Some k) rescued e = cc
+takes-none w v None None rescued e = rescues-none w rescued e
 
-as_move-some : (f : WorkId → Move) (o : Option ℕ) (move : Move) → as_move f o ≡ Some move → (w : ℕ) × (o ≡ Some w) × (f (record { 0 = w }) ≡ move)
-as_move-some f (Some w) move e = (w, refl, cc)
-as_move-some f None move e = cc
+starts-none : (s : State) (w : WorkId) (o worker rescued : Option ℕ) → or_else (start_first s o worker) (as_move Rescue rescued) ≡ Some (Advance w) → ⊥
+starts-none s w (Some v) worker rescued e = takes-none w v (running_at s v) worker rescued e
+starts-none s w None worker rescued e = rescues-none w rescued e
 
-taken-says : (S : ScenarioContents) (s : State) (pool w : ℕ) (move : Move) → may_start S s pool ≡ true → first_listed S s pool ≡ Some w
-    → (r : Option Running) (worker : Option ℕ) → running_at s w ≡ r → take_listed w r worker ≡ Some move → MoveSays S s pool move
-taken-says S s pool w move may first (Some r) worker runs e =
-    let same : Defer (record { 0 = w }) ≡ move = cc in
-    subst (MoveSays S s pool) same (may, first, ap is_some runs)
-taken-says S s pool w move may first None (Some worker) runs e =
-    let same : Start (record { 0 = w }) ≡ move = cc in
-    subst (MoveSays S s pool) same (may, first, runs)
-taken-says S s pool w move may first None None runs e = cc
+starts-none-if : (S : ScenarioContents) (s : State) (pool : ℕ) (w : WorkId) (b : Bool) → cond b (start_or_rescue S s pool) None ≡ Some (Advance w) → ⊥
+starts-none-if S s pool w true e = starts-none s w (first_listed S s pool) (free_worker S s pool) (first_rescued S s pool) e
+starts-none-if S s pool w false e = cc
 
-first-says : (S : ScenarioContents) (s : State) (pool : ℕ) (move : Move) → may_start S s pool ≡ true → (o : Option ℕ) → first_listed S s pool ≡ o
-    → (worker : Option ℕ) → start_first s o worker ≡ Some move → MoveSays S s pool move
-first-says S s pool move may (Some w) first worker e = taken-says S s pool w move may first (running_at s w) worker refl e
-first-says S s pool move may None first worker e = cc
+head-if : (S : ScenarioContents) (s : State) (pool : ℕ) (w : WorkId) (head slept : Option ℕ) → or_else (as_move Advance head) (or_else (as_move Wake slept) (start_move S s pool)) ≡ Some (Advance w)
+    → head ≡ Some w.0
+head-if S s pool w (Some v) slept e = (let same : record { 0 = v } ≡ w = cc in ap (λ (x : WorkId). Some x.0) same)
+head-if S s pool w None (Some v) e = cc
+head-if S s pool w None None e = absurd (starts-none-if S s pool w (may_start S s pool) e)
 
-rescue-says : (S : ScenarioContents) (s : State) (pool : ℕ) (move : Move) → may_start S s pool ≡ true → as_move Rescue (first_rescued S s pool) ≡ Some move
-    → MoveSays S s pool move
-rescue-says S s pool move may e =
-    let found = as_move-some Rescue (first_rescued S s pool) move e in
-    subst (MoveSays S s pool) found.2 (may, found.1)
-
-start-says : (S : ScenarioContents) (s : State) (pool : ℕ) (move : Move) (b : Bool) → may_start S s pool ≡ b → cond b (start_or_rescue S s pool) None ≡ Some move
-    → MoveSays S s pool move
-start-says S s pool move true may e =
-    either (MoveSays S s pool move) (start_first s (first_listed S s pool) (free_worker S s pool)) (as_move Rescue (first_rescued S s pool)) move e
-    (first-says S s pool move may (first_listed S s pool) refl (free_worker S s pool)) (rescue-says S s pool move may)
-start-says S s pool move false may e = cc
-
-advance-says : (S : ScenarioContents) (s : State) (pool : ℕ) (move : Move) → as_move Advance (ready_head S s pool) ≡ Some move → MoveSays S s pool move
-advance-says S s pool move e =
-    let found = as_move-some Advance (ready_head S s pool) move e in
-    subst (MoveSays S s pool) found.2 found.1
-
-wake-says : (S : ScenarioContents) (s : State) (pool : ℕ) (move : Move) → as_move Wake (first_slept S s pool) ≡ Some move → MoveSays S s pool move
-wake-says S s pool move e =
-    let found = as_move-some Wake (first_slept S s pool) move e in
-    subst (MoveSays S s pool) found.2 found.1
-
-pub next_move-says : (S : ScenarioContents) (s : State) (pool : ℕ) (move : Move) → next_move S s pool ≡ Some move → MoveSays S s pool move
-next_move-says S s pool move e =
-    either (MoveSays S s pool move) (as_move Advance (ready_head S s pool)) (or_else (as_move Wake (first_slept S s pool)) (start_move S s pool)) move e
-    (advance-says S s pool move)
-    (λ later. either (MoveSays S s pool move) (as_move Wake (first_slept S s pool)) (start_move S s pool) move later (wake-says S s pool move)
-    (start-says S s pool move (may_start S s pool) refl))
+pub advances-head : (S : ScenarioContents) (s : State) (pool : ℕ) (w : WorkId) → next_move S s pool ≡ Some (Advance w) → ready_head S s pool ≡ Some w.0
+advances-head S s pool w e = head-if S s pool w (ready_head S s pool) (first_slept S s pool) e
 
 pub moved_by-some : (o : Option Move) (x : Instance) → moved_by o ≡ Some x → (move : Move) × (o ≡ Some move) × (moved_instance move ≡ x)
 moved_by-some (Some move) x e = (move, refl, cc)

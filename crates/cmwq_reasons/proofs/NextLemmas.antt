@@ -1,15 +1,15 @@
 -- The instance that a pool's next move moves says that it is next, and the step of the pool moves it.
-use Rattle.std.proofs.Common.{◌≡◌, ℕ, ◌<◌, Bool, true, false, cond, ◌&&◌, length, Option, Some, None, refl, sym, ap, ◌∙◌, subst}
-use Rattle.std.proofs.lemmas.Bool.{and_parts, eqb-true, lt-ltb}
-use Rattle.std.specs.Prelude.{◌==◌, is_none, nat_lt}
+use Rattle.std.proofs.Common.{◌≡◌, ℕ, ◌<◌, Bool, true, false, cond, ◌&&◌, ◌||◌, length, Option, Some, None, refl, sym, ap, ◌∙◌, subst}
+use Rattle.std.proofs.lemmas.Bool.{and_parts, eqb-true, lt-ltb, or_right}
+use Rattle.std.specs.Prelude.{◌==◌, nat_lt}
 use Rattle.cmwq_types.specs.Contents.{ScenarioContents}
 use Rattle.cmwq_types.specs.First.{by_least_two}
-use Rattle.cmwq_types.specs.Scenario.{op_at, pool_count, queue_of, local_cpu}
+use Rattle.cmwq_types.specs.Scenario.{pool_count}
+use Rattle.cmwq_types.specs.declared.instr.Instr.{Instr}
 use Rattle.cmwq_types.specs.declared.instr.Instr.TheVariants as instr
 use Rattle.cmwq_types.specs.declared.instr.WorkId.{WorkId}
 use Rattle.cmwq_types.specs.declared.moves.Move.{Move}
 use Rattle.cmwq_types.specs.declared.moves.Move.TheVariants.{Advance, Wake, Start, Defer, Rescue}
-use Rattle.cmwq_types.specs.declared.reply.Event.{Event}
 use Rattle.cmwq_types.specs.declared.reply.Event.TheVariants as event
 use Rattle.cmwq_types.specs.declared.reply.Place.{Place}
 use Rattle.cmwq_types.specs.declared.reply.Place.TheVariants.{Timer, Inactive, Listed, Deferred}
@@ -17,25 +17,26 @@ use Rattle.cmwq_types.specs.declared.reply.Refusal.{Refusal}
 use Rattle.cmwq_types.specs.declared.reply.Refusal.TheVariants.{NoSuchPool, NothingToDo, Spent}
 use Rattle.cmwq_types.specs.declared.reply.Reply.{Reply}
 use Rattle.cmwq_types.specs.declared.reply.Reply.TheVariants as reply
-use Rattle.cmwq_types.specs.declared.scenario.Op.{Op}
-use Rattle.cmwq_types.specs.declared.scenario.Op.TheVariants as op
 use Rattle.cmwq_table.specs.declared.state.Pending.{Pending}
 use Rattle.cmwq_table.specs.declared.state.Running.{Running}
-use Rattle.cmwq_table.specs.State.{State, is_disabled, is_unbound, pending_at, running_at}
-use Rattle.cmwq_table.specs.Counts.{can_be_rescued, first_due, first_listed, first_ready, first_rescued, first_runnable, first_slept, has_free_rescuer, if_ready, is_deferred, is_due, is_listed, is_runnable, is_slept, may_start, or_else, pending_before, pending_due, pending_stamp, pends, ready_head, running_before, running_stamp, running_until, runs}
+use Rattle.cmwq_table.specs.State.{State, is_unbound, pending_at, running_at}
+use Rattle.cmwq_table.specs.Counts.{first_due, first_ready, first_runnable, if_ready, is_due, is_listed, is_runnable, is_slept, or_else, pending_due, pending_stamp, pends, ready_head, runs}
 use Rattle.cmwq_table.specs.Laws.{placed_in, reply_to}
-use Rattle.cmwq_table.specs.Moves.{advance, begin_again, carry_out, come_to_end, moved, moved_work, next_move, onward, queue_from_body, retire, delay_from_body, mod_from_body}
-use Rattle.cmwq_table.specs.Table.{answer, effect, fired_first, nothing_to_do, refusal, refuse_unless, spent_all, stepped, table}
+use Rattle.cmwq_table.specs.Changes.{HasSlept, IsReady, IsToTake, MoveFits, ready_in, slept_in}
+use Rattle.cmwq_table.proofs.Choosing.{next_move-fits}
+use Rattle.cmwq_table.specs.Moves.{moved, moved_work, next_move}
+use Rattle.cmwq_table.specs.Table.{answer, effect, fired_first, is_free, nothing_to_do, operands, refusal, refuse_unless, situation, spent_all, stepped, table}
 use Rattle.cmwq_reasons.specs.declared.reason.Instance.{Instance}
 use Rattle.cmwq_reasons.specs.declared.reason.Instance.TheVariants as instance
 use Rattle.cmwq_reasons.specs.declared.reason.Reason.{Reason}
 use Rattle.cmwq_reasons.specs.declared.reason.Reason.TheVariants as reason
 use Rattle.cmwq_reasons.specs.declared.reason.Turn.{Turn}
 use Rattle.cmwq_reasons.specs.declared.reason.Turn.TheVariants.{Starts, Defers, StartsOnRescuer}
-use Rattle.cmwq_reasons.specs.Laws.{InAnyState, IsFiredNext, IsHead, IsMovedNext, IsNextToMove, SaysFiresNext, SaysNext, StepMoves, instance_of, moves_next, turn_move, pool_if_pending, pool_if_running, takes_pending}
+use Rattle.cmwq_reasons.specs.Laws.{InAnyState, IsFiredNext, IsHead, IsMovedNext, IsNextToMove, SaysFiresNext, SaysNext, StepMoves, instance_of, moves_next, turn_move, pool_if_pending, pool_if_running}
 use Rattle.cmwq_reasons.specs.Reasons.{moved_by, moved_instance, mover, pending_half, reason_if_pending, reason_if_running, reason_in_place, reason_of_running, running_half}
-use Rattle.cmwq_reasons.proofs.MoverLemmas.{MoveSays, due-first, is_due_now, is_listed_in, is_ready_in, is_runnable_in, is_slept_in, listed-first, moved_by-some, next_move-says, ready-first, rescued-first, runnable-first, slept-first, some-first}
+use Rattle.cmwq_reasons.proofs.MoverLemmas.{advances-head, due-first, is_due_now, moved_by-some, some-first}
 use Rattle.cmwq_reasons.proofs.PendingRows.{PlaceRow, fires_next-from, fires_next-to, free-to, place-row}
+use Rattle.cmwq_reasons.proofs.Saying.{advances-run}
 use Rattle.cmwq_reasons.proofs.RunningRows.{RunRow, ready_next-to, run-row, runnable-is, wakes_next-to}
 
 -- Who says that it is next, is moved next.
@@ -103,101 +104,74 @@ record ReadyHead (S : ScenarioContents) (s : State) (pool w : ℕ) : Type 0 wher
   head : IsHead S s w r
   left : r.left ≡ 0
 
-ready-if : (s : State) (o : Option ℕ) (w : ℕ) → if_ready s o ≡ Some w → (o ≡ Some w) × (runs (λ r. r.left == 0) (running_at s w) ≡ true)
-ready-if s (Some v) w e = kept (runs (λ r. r.left == 0) (running_at s v)) refl e
-  where
-    kept : (b : Bool) → runs (λ r. r.left == 0) (running_at s v) ≡ b → cond b (Some v) None ≡ Some w
-        → (Some v ≡ Some w) × (runs (λ r. r.left == 0) (running_at s w) ≡ true)
-    kept true idle found = (let same : v ≡ w = cc in (found, ap (λ (k : ℕ). runs (λ r. r.left == 0) (running_at s k)) (sym same) ∙ idle))
-    kept false idle found = cc
+ready-if : (s : State) (o : Option ℕ) (w : ℕ) → if_ready s o ≡ Some w → o ≡ Some w
+ready-if s (Some v) w e = kept (runs (λ r. r.left == 0) (running_at s v)) e where
+  kept : (b : Bool) → cond b (Some v) None ≡ Some w → Some v ≡ Some w
+  kept true found = found
+  kept false found = cc
 ready-if s None w e = cc
 
-head-is : (S : ScenarioContents) (s : State) (pool w : ℕ) (b : Bool) → is_unbound S pool ≡ b
-    → cond b (first_ready S s pool) (if_ready s (first_runnable S s pool)) ≡ Some w → ReadyHead S s pool w
-head-is S s pool w true unbound found =
-    let first = some-first (running_before s) (is_ready_in s pool) (length S.works) (first_ready S s pool) (ready-first S s pool) w found in
-    let run = runs-some (λ r. (r.pool == pool) && is_runnable r.mode && (r.left == 0)) (running_at s w) first.1 in
+bound-first : (S : ScenarioContents) (s : State) (pool w : ℕ) (b : Bool) → is_unbound S pool ≡ b → cond b (first_ready S s pool) (if_ready s (first_runnable S s pool)) ≡ Some w
+    → is_unbound S pool ≡ false → first_runnable S s pool ≡ Some w
+bound-first S s pool w true is found bound = cc
+bound-first S s pool w false is found bound = ready-if s (first_runnable S s pool) w found
+
+head-is : (S : ScenarioContents) (s : State) (pool w : ℕ) → IsReady S s pool w → ready_head S s pool ≡ Some w → ReadyHead S s pool w
+head-is S s pool w fits found =
+    let run = runs-some (ready_in pool) (running_at s w) fits.ready in
     let both = and_parts ((run.0.pool == pool) && is_runnable run.0.mode) (run.0.left == 0) run.2 in
     let here = and_parts (run.0.pool == pool) (is_runnable run.0.mode) both.0 in
     let pool_is : run.0.pool ≡ pool = eqb-true run.0.pool pool here.0 in
     record {
-      there = first.0;
+      there = fits.there;
       r = run.0;
       is = run.1;
       pool_is = pool_is;
-      head = (runnable-is run.0.mode here.1, λ bound. absurd (cc (sym bound ∙ ap (is_unbound S) pool_is ∙ unbound)));
+      head = (
+        runnable-is run.0.mode here.1,
+        λ bound. ap (first_runnable S s) pool_is ∙ bound-first S s pool w (is_unbound S pool) refl found (sym (ap (is_unbound S) pool_is) ∙ bound),
+      );
       left = eqb-true run.0.left 0 both.1;
     }
-head-is S s pool w false bound found =
-    let ready = ready-if s (first_runnable S s pool) w found in
-    let first = some-first (running_before s) (is_runnable_in s pool) (length S.works) (first_runnable S s pool) (runnable-first S s pool) w ready.0 in
-    let run = runs-some (λ r. (r.pool == pool) && is_runnable r.mode) (running_at s w) first.1 in
-    let here = and_parts (run.0.pool == pool) (is_runnable run.0.mode) run.2 in
-    let pool_is : run.0.pool ≡ pool = eqb-true run.0.pool pool here.0 in
-    let idle : (run.0.left == 0) ≡ true = sym (ap (runs (λ r. r.left == 0)) run.1) ∙ ready.1 in
-    record {
-      there = first.0;
-      r = run.0;
-      is = run.1;
-      pool_is = pool_is;
-      head = (runnable-is run.0.mode here.1, λ e. ap (first_runnable S s) pool_is ∙ ready.0);
-      left = eqb-true run.0.left 0 idle;
-    }
 
-advance-next : (S : ScenarioContents) (s : State) (pool : ℕ) (w : WorkId) → next_move S s pool ≡ Some (Advance w) → ready_head S s pool ≡ Some w.0
+advance-next : (S : ScenarioContents) (s : State) (pool : ℕ) (w : WorkId) → next_move S s pool ≡ Some (Advance w) → IsReady S s pool w.0
     → SaysNext S s pool (instance.Running w)
-advance-next S s pool w moves found =
-    let ready : ReadyHead S s pool w.0 = head-is S s pool w.0 (is_unbound S pool) refl found in
+advance-next S s pool w moves fits =
+    let ready : ReadyHead S s pool w.0 = head-is S s pool w.0 fits (advances-head S s pool w moves) in
     let moved_next : mover S s ready.r.pool ≡ Some (running_half w.0) = ap (mover S s) ready.pool_is ∙ ap moved_by moves in
     let told : reason_of_running S s w.0 ready.r ≡ reason.ReadyNext = ready_next-to S s w.0 ready.r (ready.head, ready.left, moved_next) in
     (reason.ReadyNext, ap (reason_if_running S s w.0) ready.is ∙ ap Some told, refl, ap pool_if_running ready.is ∙ ap Some ready.pool_is, ready.there)
 
-wake-next : (S : ScenarioContents) (s : State) (pool : ℕ) (w : WorkId) → next_move S s pool ≡ Some (Wake w) → first_slept S s pool ≡ Some w.0
+wake-next : (S : ScenarioContents) (s : State) (pool : ℕ) (w : WorkId) → next_move S s pool ≡ Some (Wake w) → HasSlept S s pool w.0
     → SaysNext S s pool (instance.Running w)
-wake-next S s pool w moves found =
-    let first =
-    some-first (by_least_two (λ w. running_until (running_at s w)) (λ w. running_stamp (running_at s w))) (is_slept_in s pool) (length S.works) (first_slept S s pool)
-    (slept-first S s pool) w.0 found in
-    let run = runs-some (λ r. (r.pool == pool) && is_slept r.mode s.time) (running_at s w.0) first.1 in
+wake-next S s pool w moves fits =
+    let run = runs-some (slept_in pool s.time) (running_at s w.0) fits.slept in
     let here = and_parts (run.0.pool == pool) (is_slept run.0.mode s.time) run.2 in
     let pool_is : run.0.pool ≡ pool = eqb-true run.0.pool pool here.0 in
     let moved_next : mover S s run.0.pool ≡ Some (running_half w.0) = ap (mover S s) pool_is ∙ ap moved_by moves in
     let told : reason_of_running S s w.0 run.0 ≡ reason.WakesNext = wakes_next-to S s w.0 run.0 (here.1, moved_next) in
-    (reason.WakesNext, ap (reason_if_running S s w.0) run.1 ∙ ap Some told, refl, ap pool_if_running run.1 ∙ ap Some pool_is, first.0)
+    (reason.WakesNext, ap (reason_if_running S s w.0) run.1 ∙ ap Some told, refl, ap pool_if_running run.1 ∙ ap Some pool_is, fits.there)
 
-turn-next : (S : ScenarioContents) (s : State) (pool : ℕ) (turn : Turn) (w : WorkId) → next_move S s pool ≡ Some (turn_move turn w.0) → may_start S s pool ≡ true
-    → w.0 < length S.works → is_listed_in s pool w.0 ≡ true → SaysNext S s pool (instance.Pending w)
-turn-next S s pool turn w moves may there listed =
-    let pend = pends-some (λ place. is_listed place pool) (pending_at s w.0) listed in
+turn-next : (S : ScenarioContents) (s : State) (pool : ℕ) (turn : Turn) (w : WorkId) → next_move S s pool ≡ Some (turn_move turn w.0) → IsToTake S s pool w.0
+    → SaysNext S s pool (instance.Pending w)
+turn-next S s pool turn w moves fits =
+    let pend = pends-some (λ place. is_listed place pool) (pending_at s w.0) fits.listed in
     let at : pend.0.place ≡ Listed pool = listed-is pend.0.place pool pend.2 in
-    let told : reason_in_place S s w.0 pend.0.place ≡ reason.Free pool turn = free-to S s w.0 pend.0.place pool turn (at, may, moves) in
-    (reason.Free pool turn, ap (reason_if_pending S s w.0) pend.1 ∙ ap Some told, refl, ap pool_if_pending pend.1 ∙ ap placed_in at, there)
+    let told : reason_in_place S s w.0 pend.0.place ≡ reason.Free pool turn = free-to S s w.0 pend.0.place pool turn (at, fits.may, moves) in
+    (reason.Free pool turn, ap (reason_if_pending S s w.0) pend.1 ∙ ap Some told, refl, ap pool_if_pending pend.1 ∙ ap placed_in at, fits.there)
 
-listed-next : (S : ScenarioContents) (s : State) (pool : ℕ) (turn : Turn) (w : WorkId) → next_move S s pool ≡ Some (turn_move turn w.0) → may_start S s pool ≡ true
-    → first_listed S s pool ≡ Some w.0 → SaysNext S s pool (instance.Pending w)
-listed-next S s pool turn w moves may found =
-    let first = some-first (pending_before s) (is_listed_in s pool) (length S.works) (first_listed S s pool) (listed-first S s pool) w.0 found in
-    turn-next S s pool turn w moves may first.0 first.1
-
-rescued-next : (S : ScenarioContents) (s : State) (pool : ℕ) (w : WorkId) → next_move S s pool ≡ Some (Rescue w) → may_start S s pool ≡ true
-    → first_rescued S s pool ≡ Some w.0 → SaysNext S s pool (instance.Pending w)
-rescued-next S s pool w moves may found =
-    let first = some-first (pending_before s) (can_be_rescued S s pool) (length S.works) (first_rescued S s pool) (rescued-first S s pool) w.0 found in
-    let listed = (and_parts (is_listed_in s pool w.0) (is_none (running_at s w.0) && has_free_rescuer S s (queue_of S w.0)) first.1).0 in
-    turn-next S s pool StartsOnRescuer w moves may first.0 listed
-
-move-next : (S : ScenarioContents) (s : State) (pool : ℕ) (move : Move) → next_move S s pool ≡ Some move → MoveSays S s pool move
+move-next : (S : ScenarioContents) (s : State) (pool : ℕ) (move : Move) → next_move S s pool ≡ Some move → MoveFits S s pool move
     → SaysNext S s pool (moved_instance move)
-move-next S s pool (Advance w) moves says = advance-next S s pool w moves says
-move-next S s pool (Wake w) moves says = wake-next S s pool w moves says
-move-next S s pool (Start w) moves says = listed-next S s pool Starts w moves says.0 says.1
-move-next S s pool (Defer w) moves says = listed-next S s pool Defers w moves says.0 says.1
-move-next S s pool (Rescue w) moves says = rescued-next S s pool w moves says.0 says.1
+move-next S s pool (Advance w) moves fits = advance-next S s pool w moves fits
+move-next S s pool (Wake w) moves fits = wake-next S s pool w moves fits
+move-next S s pool (Start w) moves fits = turn-next S s pool Starts w moves fits.0.taken
+move-next S s pool (Defer w) moves fits = turn-next S s pool Defers w moves fits.0
+move-next S s pool (Rescue w) moves fits = turn-next S s pool StartsOnRescuer w moves fits.0.taken
 
 pub moved-says : (S : ScenarioContents) (s : State) (pool : ℕ) (x : Instance) → mover S s pool ≡ Some x → SaysNext S s pool x
 moved-says S s pool x e =
     let found = moved_by-some (next_move S s pool) x e in
-    subst (SaysNext S s pool) found.2 (move-next S s pool found.0 found.1 (next_move-says S s pool found.0 found.1))
+    subst (SaysNext S s pool) found.2 (move-next S s pool found.0 found.1 (next_move-fits S s pool found.0 found.1))
 
 pub is_next_to_move : InAnyState IsNextToMove
 unfolding IsNextToMove
@@ -205,67 +179,39 @@ is_next_to_move S s pool x = (says-moved S s pool x, moved-says S s pool x)
 
 -- The step moves it.
 
-abbrev step-reply : ScenarioContents → State → ℕ → Option Move → Reply
-step-reply S s pool (Some move) = reply.Event (moved_work move) (moved S s pool move).1
-step-reply S s pool None = reply.Refused NothingToDo
+-- the reply is the refusal, if there is one, and else that of the effect
+abbrev pub reply-of : Option Refusal → Reply → Reply
+reply-of (Some why) told = reply.Refused why
+reply-of None told = told
 
-pub accepted : (b : Bool) (why : Refusal) → b ≡ true → refuse_unless b why ≡ None
+answered : (S : ScenarioContents) (s : State) (i : Instr) (o : Option Refusal) (after : State × Reply) → (answer S s i o after).1 ≡ reply-of o after.1
+answered S s i (Some why) after = refl
+answered S s i None after = refl
+
+pub replies : (S : ScenarioContents) (s : State) (i : Instr) → reply_to S s i ≡ reply-of (refusal S s i) (effect S s i).1
+unfolding table
+replies S s i = answered S s i (refusal S s i) (effect S s i)
+
+accepted : (b : Bool) (why : Refusal) → b ≡ true → refuse_unless b why ≡ None
 accepted true why e = refl
 accepted false why e = cc
 
-pub neither : (a b c : Option Refusal) → a ≡ None → b ≡ None → or_else a (or_else b c) ≡ c
+neither : (a b c : Option Refusal) → a ≡ None → b ≡ None → or_else a (or_else b c) ≡ c
 neither (Some x) b c first second = cc
 neither None (Some x) c first second = cc
 neither None None c first second = refl
 
-answered : (S : ScenarioContents) (s : State) (pool : ℕ) (o : Option Move) → (answer S s (instr.Step pool) (nothing_to_do o) (stepped S s pool o)).1 ≡ step-reply S s pool o
-answered S s pool (Some move) = refl
-answered S s pool None = refl
+-- while steps are left, only the situation refuses what has fit operands
+pub replies-by : (S : ScenarioContents) (s : State) (i : Instr) → s.spent < S.steps → operands S s i ≡ None → reply_to S s i ≡ reply-of (situation S s i) (effect S s i).1
+replies-by S s i more fit =
+    let left = accepted (is_free S s i || nat_lt s.spent S.steps) Spent (or_right (is_free S s i) (nat_lt s.spent S.steps) (lt-ltb s.spent S.steps more)) in
+    replies S s i ∙ ap (λ (o : Option Refusal). reply-of o (effect S s i).1) (neither (operands S s i) (spent_all S s i) (situation S s i) fit left)
+
+abbrev step-reply : ScenarioContents → State → ℕ → Option Move → Reply
+step-reply S s pool o = reply-of (nothing_to_do o) (stepped S s pool o).1
 
 steps : (S : ScenarioContents) (s : State) (pool : ℕ) → s.spent < S.steps → pool < pool_count S → reply_to S s (instr.Step pool) ≡ step-reply S s pool (next_move S s pool)
-unfolding table
-steps S s pool more there =
-    let judged : refusal S s (instr.Step pool) ≡ nothing_to_do (next_move S s pool) =
-    neither (refuse_unless (nat_lt pool (pool_count S)) NoSuchPool) (spent_all S s (instr.Step pool)) (nothing_to_do (next_move S s pool))
-    (accepted (nat_lt pool (pool_count S)) NoSuchPool (lt-ltb pool (pool_count S) there)) (accepted (nat_lt s.spent S.steps) Spent (lt-ltb s.spent S.steps more)) in
-    ap (λ (o : Option Refusal). (answer S s (instr.Step pool) o (effect S s (instr.Step pool))).1) judged ∙ answered S s pool (next_move S s pool)
-
-queues-run : (S : ScenarioContents) (s : State) (other : WorkId) (cpu : ℕ) (b : Bool) (p : Option Pending) → takes_pending (queue_from_body S s other cpu b p).1 ≡ false
-queues-run S s other cpu true p = refl
-queues-run S s other cpu false (Some p) = refl
-queues-run S s other cpu false None = refl
-
-delays-run : (S : ScenarioContents) (s : State) (other : WorkId) (cpu ticks : ℕ) (b : Bool) (p : Option Pending)
-    → takes_pending (delay_from_body S s other cpu ticks b p).1 ≡ false
-delays-run S s other cpu ticks true p = refl
-delays-run S s other cpu ticks false (Some p) = refl
-delays-run S s other cpu ticks false None = refl
-
-mods-run : (S : ScenarioContents) (s : State) (other : WorkId) (cpu ticks : ℕ) (b : Bool) (p : Option Pending)
-    → takes_pending (mod_from_body S s other cpu ticks b p).1 ≡ false
-mods-run S s other cpu ticks true p = refl
-mods-run S s other cpu ticks false p = refl
-
-ends-run-if : (b : Bool) (t u : State) → takes_pending (cond {A = State × Event} b (t, event.FinishesAndStarts) (u, event.Finishes)).1 ≡ false
-ends-run-if true t u = refl
-ends-run-if false t u = refl
-
-ends-run : (s : State) (w : ℕ) (r : Running) (p : Option Pending) → takes_pending (come_to_end s w r p).1 ≡ false
-ends-run s w r (Some p) = ends-run-if (is_deferred p.place) (begin_again s w r p) (retire s w r)
-ends-run s w r None = refl
-
-carries-run : (S : ScenarioContents) (s : State) (w : ℕ) (r : Running) (o : Op) → takes_pending (carry_out S s w r o).1 ≡ false
-carries-run S s w r (op.Burn ticks) = refl
-carries-run S s w r (op.Sleep ticks) = refl
-carries-run S s w r (op.Queue other cpu) = queues-run S (onward s w r) other cpu (is_disabled s other.0) (pending_at s other.0)
-carries-run S s w r op.Finish = ends-run s w r (pending_at s w)
-carries-run S s w r (op.Delay other ticks) = delays-run S (onward s w r) other (local_cpu S r.pool) ticks (is_disabled s other.0) (pending_at s other.0)
-carries-run S s w r (op.Mod other ticks) = mods-run S (onward s w r) other (local_cpu S r.pool) ticks (is_disabled s other.0) (pending_at s other.0)
-carries-run S s w r (op.Cancel other) = refl
-
-advances-run : (S : ScenarioContents) (s : State) (w : ℕ) (o : Option Running) → takes_pending (advance S s w o).1 ≡ false
-advances-run S s w (Some r) = carries-run S s w r (op_at S w r.pc)
-advances-run S s w None = refl
+steps S s pool more there = replies-by S s (instr.Step pool) more (accepted (nat_lt pool (pool_count S)) NoSuchPool (lt-ltb pool (pool_count S) there))
 
 -- a move's event is one of the instance that it moves
 tells-moved : (S : ScenarioContents) (s : State) (pool : ℕ) (move : Move) → instance_of (moved_work move) (moved S s pool move).1 ≡ moved_instance move
@@ -301,20 +247,8 @@ is_moved_next S s more pool x there =
 
 -- The timer that fires next.
 
-abbrev fire-reply : Option ℕ → Reply
-fire-reply (Some w) = reply.Event (record { 0 = w }) event.Fires
-fire-reply None = reply.Refused NothingToDo
-
-fires-answered : (S : ScenarioContents) (s : State) (o : Option ℕ) → (answer S s instr.Fire (nothing_to_do o) (fired_first S s o)).1 ≡ fire-reply o
-fires-answered S s (Some w) = refl
-fires-answered S s None = refl
-
-fires : (S : ScenarioContents) (s : State) → s.spent < S.steps → reply_to S s instr.Fire ≡ fire-reply (first_due S s)
-unfolding table
-fires S s more =
-    let judged : refusal S s instr.Fire ≡ nothing_to_do (first_due S s) =
-    neither None (spent_all S s instr.Fire) (nothing_to_do (first_due S s)) refl (accepted (nat_lt s.spent S.steps) Spent (lt-ltb s.spent S.steps more)) in
-    ap (λ (o : Option Refusal). (answer S s instr.Fire o (effect S s instr.Fire)).1) judged ∙ fires-answered S s (first_due S s)
+abbrev fire-reply : ScenarioContents → State → Option ℕ → Reply
+fire-reply S s o = reply-of (nothing_to_do o) (fired_first S s o).1
 
 says-due : (S : ScenarioContents) (s : State) (w : ℕ) (o : Option Pending) → w < length S.works → pending_at s w ≡ o
     → reason_if_pending S s w o ≡ Some reason.FiresNext → first_due S s ≡ Some w
@@ -330,14 +264,14 @@ due-says S s w found =
     let pend = pends-some (λ place. is_due place s.time) (pending_at s w.0) first.1 in
     (ap (reason_if_pending S s w.0) pend.1 ∙ ap Some (fires_next-to S s w.0 pend.0.place (pend.2, found)), first.0)
 
-fire-is : (o : Option ℕ) (w : WorkId) → fire-reply o ≡ reply.Event w event.Fires → o ≡ Some w.0
-fire-is (Some v) w e = (let same : record { 0 = v } ≡ w = cc in ap (λ (x : WorkId). Some x.0) same)
-fire-is None w e = cc
+fire-is : (S : ScenarioContents) (s : State) (o : Option ℕ) (w : WorkId) → fire-reply S s o ≡ reply.Event w event.Fires → o ≡ Some w.0
+fire-is S s (Some v) w e = (let same : record { 0 = v } ≡ w = cc in ap (λ (x : WorkId). Some x.0) same)
+fire-is S s None w e = cc
 
 pub is_fired_next : InAnyState IsFiredNext
 unfolding IsFiredNext
 is_fired_next S s more w =
-    let told = fires S s more in (
-      λ says. told ∙ ap fire-reply (says-due S s w.0 (pending_at s w.0) says.1 refl says.0),
-      λ fired. due-says S s w (fire-is (first_due S s) w (sym told ∙ fired)),
+    let told : reply_to S s instr.Fire ≡ fire-reply S s (first_due S s) = replies-by S s instr.Fire more refl in (
+      λ says. told ∙ ap (fire-reply S s) (says-due S s w.0 (pending_at s w.0) says.1 refl says.0),
+      λ fired. due-says S s w (fire-is S s (first_due S s) w (sym told ∙ fired)),
     )

@@ -25,7 +25,8 @@ use Rattle.cmwq_reasons.specs.Reasons.{causes, has_relief_to_come, lacks_memory,
 use Rattle.cmwq_reasons.proofs.BelowLemmas.{count-some, counts-none}
 use Rattle.cmwq_reasons.proofs.CountLemmas.{last-none, length-all, listed-here, may-start, no-start, no_worker_is_free}
 use Rattle.cmwq_reasons.proofs.MaxLemmas.{first-none, passes}
-use Rattle.cmwq_reasons.proofs.MoverLemmas.{as_move-none, none-first, rescued-first}
+use Rattle.cmwq_table.proofs.Choosing.{rescued-is_first}
+use Rattle.cmwq_reasons.proofs.MoverLemmas.{as_move-none, none-first}
 use Rattle.cmwq_reasons.proofs.PendingRows.{no_worker-from, place-row}
 use Rattle.cmwq_reasons.proofs.StaffLemmas.{run-staffed}
 use Rattle.cmwq_reasons.proofs.WorkerLemmas.{IsStaffed, idle_count, is_idle, is_in, post, post_at, post_of, run_count}
@@ -137,7 +138,7 @@ module _ (S : ScenarioContents) (s : State) (w pool : ℕ) (p : Pending) (lacks 
       let no_rescue : first_rescued S s pool ≡ None =
       as_move-none Rescue (first_rescued S s pool)
       (last-none (start_first s (first_listed S s pool) (free_worker S s pool)) (as_move Rescue (first_rescued S s pool)) none) in
-      none-first (pending_before s) (can_be_rescued S s pool) (length S.works) (first_rescued S s pool) (rescued-first S s pool) no_rescue w lacks.there
+      none-first (pending_before s) (can_be_rescued S s pool) (length S.works) (first_rescued S s pool) (rescued-is_first S s pool) no_rescue w lacks.there
       (and_from (pends (λ place. is_listed place pool) (pending_at s w)) (is_none (running_at s w) && has_free_rescuer S s (queue_of S w))
       (listed-here s w pool p lacks.is lacks.at)
       (and_from (is_none (running_at s w)) (has_free_rescuer S s (queue_of S w)) (ap is_none still) free))

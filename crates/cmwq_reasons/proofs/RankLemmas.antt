@@ -26,7 +26,8 @@ use Rattle.cmwq_reasons.specs.declared.reason.Turn.{Turn}
 use Rattle.cmwq_reasons.specs.declared.reason.Turn.TheVariants.{Starts, Defers, StartsOnRescuer}
 use Rattle.cmwq_reasons.specs.Laws.{BlamesAtMostFive, InAnyState, IsAmong, IsChainOfBlame, IsHead, RanksCausesBelow, moves_next, rank}
 use Rattle.cmwq_reasons.specs.Reasons.{burns_unless, causes, counted_works, deferred_holders, free_or_after, holders, is_same, listed_holders, moved_by, mover, next_or_after, other_instance, pending_half, pending_holders, pending_works, reason_by_move, reason_if_pending, reason_if_running, reason_in_mode, reason_in_place, reason_of, reason_of_head, reason_of_runnable, reason_of_running, running_half, running_holders, running_works, work_above, work_before, works_on_workers}
-use Rattle.cmwq_reasons.proofs.MoverLemmas.{is_runnable_in, runnable-first, same-refl, some-first}
+use Rattle.cmwq_table.proofs.Choosing.{runnable-is_first}
+use Rattle.cmwq_reasons.proofs.MoverLemmas.{is_runnable_in, same-refl, some-first}
 use Rattle.cmwq_reasons.proofs.NextLemmas.{moved-says, runs-some}
 use Rattle.cmwq_reasons.proofs.PendingRows.{PlaceRow, place-row}
 use Rattle.cmwq_reasons.proofs.RunningRows.{RunRow, head-reason, run-row, runnable-is}
@@ -224,7 +225,7 @@ pub record First (S : ScenarioContents) (s : State) (pool w : ℕ) : Type 0 wher
 
 pub first-head : (S : ScenarioContents) (s : State) (pool w : ℕ) → first_runnable S s pool ≡ Some w → First S s pool w
 first-head S s pool w found =
-    let first = some-first (running_before s) (is_runnable_in s pool) (length S.works) (first_runnable S s pool) (runnable-first S s pool) w found in
+    let first = some-first (running_before s) (is_runnable_in s pool) (length S.works) (first_runnable S s pool) (runnable-is_first S s pool) w found in
     let run = runs-some (λ r. (r.pool == pool) && is_runnable r.mode) (running_at s w) first.1 in
     let here = and_parts (run.0.pool == pool) (is_runnable run.0.mode) run.2 in
     let pool_is : run.0.pool ≡ pool = eqb-true run.0.pool pool here.0 in

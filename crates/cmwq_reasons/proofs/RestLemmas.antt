@@ -1,107 +1,75 @@
--- What placing, filling and taking off leave as it was: all but what pends and the next stamp.
-use Rattle.std.proofs.Common.{◌≡◌, ℕ, zero, suc, Bool, true, false, cond, [], length, Option, Some, None, refl, ◌∙◌}
+-- What an instruction leaves as it was: the turn of one work item leaves all but what is pending and the next stamp, and only a caller's
+-- instruction sets limits, the freeze and memory.
+use Rattle.std.proofs.Common.{◌≡◌, ℕ, Bool, true, false, cond, List, [], Option, None, refl, ap, ◌∙◌}
 use Rattle.cmwq_types.specs.Contents.{ScenarioContents}
-use Rattle.cmwq_types.specs.Scenario.{flags_at, queue_of}
-use Rattle.cmwq_types.specs.declared.instr.WorkId.{WorkId}
-use Rattle.cmwq_types.specs.declared.reply.Place.{Place}
-use Rattle.cmwq_types.specs.declared.reply.Place.TheVariants.{Timer, Inactive, Listed, Deferred}
-use Rattle.cmwq_table.specs.declared.state.Pending.{Pending}
-use Rattle.cmwq_table.specs.State.{State, pending_at, pool_count}
-use Rattle.cmwq_table.specs.Counts.{first_inactive, has_room}
-use Rattle.cmwq_table.specs.Moves.{deferred, enlist, fill, fill_everywhere, fill_freezable, fill_from, fill_one, fill_pools, fill_times, fired, fired_to, place_after, queue_from_body, taken_off, with_pending, delay_from_body, mod_from_body}
-use Rattle.cmwq_table.specs.Table.{cancelled, delayed, fired_first, modified, queued}
+use Rattle.cmwq_types.specs.declared.instr.Instr.{Instr}
+use Rattle.cmwq_types.specs.declared.moves.Move.{Move}
+use Rattle.cmwq_types.specs.declared.reply.Event.{Event}
+use Rattle.cmwq_types.specs.declared.reply.Reply.{Reply}
+use Rattle.cmwq_table.specs.declared.state.Running.{Running}
+use Rattle.cmwq_table.specs.State.{State}
+use Rattle.cmwq_table.specs.Changes.{Acts, Effect, Fills, Sets, Turn}
+use Rattle.cmwq_table.specs.Counts.{is_rescuer}
+use Rattle.cmwq_table.specs.Moves.{become_idle, begin_again, onward, retire, with_pending, with_running}
 
--- the state without what pends and the next stamp
+-- the state without what is pending and the next stamp
 abbrev pub rest : State → State
 rest s = record s { next = 0; pending = [] }
 
-enlist-rest : (s : State) (pool : ℕ) (o : Option ℕ) → rest (enlist s pool o) ≡ rest s
-enlist-rest s pool (Some w) = refl
-enlist-rest s pool None = refl
+pub fills-rest : (S : ScenarioContents) (s t : State) → Fills S s t → rest t ≡ rest s
+fills-rest S s t Fills.stays = refl
+fills-rest S s t (Fills.more u queue pool w filling first room) = fills-rest S s u filling
 
-fill_times-rest : (S : ScenarioContents) (queue pool n : ℕ) (s : State) → rest (fill_times S queue pool n s) ≡ rest s
-fill_times-rest S queue pool zero s = refl
-fill_times-rest S queue pool (suc n) s =
-    fill_times-rest S queue pool n (fill_one S queue pool s) ∙ enlist-rest s pool (cond (has_room S s queue pool) (first_inactive S s queue pool) None)
+pub turn-rest : (S : ScenarioContents) (s t : State) (w : ℕ) (took put : Bool) → Turn S s w took put t → rest t ≡ rest s
+turn-rest S s t w took put (Turn.fills u filling) = fills-rest S s u filling
+turn-rest S s t w took put (Turn.takes p u is filling) = fills-rest S (with_pending s w None) u filling
+turn-rest S s t w took put (Turn.changes p u cpu ticks may enabled is filling) = fills-rest S (with_pending s w None) u filling
+turn-rest S s t w took put turn = refl
 
-pub fill-rest : (S : ScenarioContents) (queue pool : ℕ) (s : State) → rest (fill S queue pool s) ≡ rest s
-fill-rest S queue pool s = fill_times-rest S queue pool (length S.works) s
+-- The limits of queues, the freeze and memory.
 
-fill_pools-rest : (S : ScenarioContents) (queue n : ℕ) (s : State) → rest (fill_pools S queue n s) ≡ rest s
-fill_pools-rest S queue zero s = refl
-fill_pools-rest S queue (suc n) s = fill-rest S queue n (fill_pools S queue n s) ∙ fill_pools-rest S queue n s
+pub record Settings : Type 0 where
+  pub max : List ℕ
+  pub frozen : Bool
+  pub pressed : Bool
 
-pub fill_everywhere-rest : (S : ScenarioContents) (queue : ℕ) (s : State) → rest (fill_everywhere S queue s) ≡ rest s
-fill_everywhere-rest S queue s = fill_pools-rest S queue (pool_count S) s
+abbrev pub settings : State → Settings
+settings s = record { max = s.max; frozen = s.frozen; pressed = s.pressed }
 
-fill_if-rest : (S : ScenarioContents) (queue : ℕ) (s : State) (b : Bool) → rest (cond b (fill_everywhere S queue s) s) ≡ rest s
-fill_if-rest S queue s true = fill_everywhere-rest S queue s
-fill_if-rest S queue s false = refl
+pub turn-settings : (S : ScenarioContents) (s t : State) (w : ℕ) (took put : Bool) → Turn S s w took put t → settings t ≡ settings s
+turn-settings S s t w took put turn = ap settings (turn-rest S s t w took put turn)
 
-pub fill_freezable-rest : (S : ScenarioContents) (n : ℕ) (s : State) → rest (fill_freezable S n s) ≡ rest s
-fill_freezable-rest S zero s = refl
-fill_freezable-rest S (suc n) s = fill_if-rest S n (fill_freezable S n s) (flags_at S n).freezable ∙ fill_freezable-rest S n s
+-- the worker of an instance that ends is free, or a rescuer is
+pub retired : (P : State → Type 0) (s : State) (w : ℕ) (r : Running) → P (with_running s w None) → P (become_idle s w r) → P (retire s w r)
+retired P s w r rescuer worker = at (is_rescuer r.worker) where
+  at : (b : Bool) → P (cond {A = State} b (with_running s w None) (become_idle s w r))
+  at true = rescuer
+  at false = worker
 
-place_after-rest : (S : ScenarioContents) (s : State) (w cpu ticks : ℕ) → rest (place_after S s w cpu ticks) ≡ rest s
-place_after-rest S s w cpu zero = refl
-place_after-rest S s w cpu (suc ticks) = refl
+pub acts-settings : (S : ScenarioContents) (s t : State) (pool : ℕ) (move : Move) (e : Event) → Acts S s pool move e t → settings t ≡ settings s
+acts-settings S s t pool move e (Acts.asks w r o e1 v took put u is at asking turn) = turn-settings S (onward s w.0 r) u v took put turn
+acts-settings S s t pool move e (Acts.ends w r u is at none filling) = ap settings (fills-rest S (retire s w.0 r) u filling) ∙ retired (λ (x : State). settings x ≡ settings s) s w.0 r refl refl
+acts-settings S s t pool move e (Acts.again w r p u is at some deferred filling) = ap settings (fills-rest S (begin_again s w.0 r p) u filling)
+acts-settings S s t pool move e acting = refl
 
-fill_from-rest : (S : ScenarioContents) (queue : ℕ) (at : Place) (s : State) → rest (fill_from S queue at s) ≡ rest s
-fill_from-rest S queue (Timer due cpu) s = refl
-fill_from-rest S queue (Inactive pool) s = fill-rest S queue pool s
-fill_from-rest S queue (Listed pool) s = fill-rest S queue pool s
-fill_from-rest S queue (Deferred pool) s = fill-rest S queue pool s
+-- what is set first, stays so
+pub effect-settings : (S : ScenarioContents) (s t : State) (i : Instr) (r : Reply) → Effect S s i t r → (b : State) × Sets s i b × (settings t ≡ settings b)
+effect-settings S s t i r (Effect.acts pool move e u shallow there is fits acting) = (s, Sets.nothing i shallow, acts-settings S s u pool move e acting)
+effect-settings S s t i r (Effect.fires w u shallow due turn) = (s, Sets.nothing i shallow, turn-settings S s u w false false turn)
+effect-settings S s t i r (Effect.passes shallow due moving) = (s, Sets.nothing i shallow, refl)
+effect-settings S s t i r (Effect.answers b u w took put told set turn answer) = (b, set, turn-settings S b u w took put turn)
+effect-settings S s t i r (Effect.gives u w took put f told shallow turn answer) = (s, Sets.nothing i shallow, turn-settings S s u w took put turn)
 
-pub taken_off-rest : (S : ScenarioContents) (s : State) (w : ℕ) (o : Option Pending) → rest (taken_off S s w o) ≡ rest s
-taken_off-rest S s w (Some p) = fill_from-rest S (queue_of S w) p.place (with_pending s w None)
-taken_off-rest S s w None = refl
+-- The workers of the pools, and what runs.
 
-pub deferred-rest : (s : State) (pool w : ℕ) (o : Option Pending) → rest (deferred s pool w o) ≡ rest s
-deferred-rest s pool w (Some p) = refl
-deferred-rest s pool w None = refl
+pub record Staff : Type 0 where
+  pub running : List (Option Running)
+  pub idle : List (Option ℕ)
+  pub made : List ℕ
 
-pub queue_from_body-rest : (S : ScenarioContents) (s : State) (other : WorkId) (cpu : ℕ) (b : Bool) (o : Option Pending) → rest (queue_from_body S s other cpu b o).0 ≡ rest s
-queue_from_body-rest S s other cpu true o = refl
-queue_from_body-rest S s other cpu false (Some p) = refl
-queue_from_body-rest S s other cpu false None = refl
+abbrev pub staff : State → Staff
+staff s = record { running = s.running; idle = s.idle; made = s.made }
 
-pub delay_from_body-rest : (S : ScenarioContents) (s : State) (other : WorkId) (cpu ticks : ℕ) (b : Bool) (o : Option Pending)
-    → rest (delay_from_body S s other cpu ticks b o).0 ≡ rest s
-delay_from_body-rest S s other cpu ticks true o = refl
-delay_from_body-rest S s other cpu ticks false (Some p) = refl
-delay_from_body-rest S s other cpu ticks false None = place_after-rest S s other.0 cpu ticks
-
-pub mod_from_body-rest : (S : ScenarioContents) (s : State) (other : WorkId) (cpu ticks : ℕ) (b : Bool) (o : Option Pending)
-    → rest (mod_from_body S s other cpu ticks b o).0 ≡ rest s
-mod_from_body-rest S s other cpu ticks true o = refl
-mod_from_body-rest S s other cpu ticks false o = place_after-rest S (taken_off S s other.0 o) other.0 cpu ticks ∙ taken_off-rest S s other.0 o
-
-fired_to-rest : (S : ScenarioContents) (s : State) (w : ℕ) (at : Place) → rest (fired_to S s w at) ≡ rest s
-fired_to-rest S s w (Timer due cpu) = refl
-fired_to-rest S s w (Inactive pool) = refl
-fired_to-rest S s w (Listed pool) = refl
-fired_to-rest S s w (Deferred pool) = refl
-
-pub fired-rest : (S : ScenarioContents) (s : State) (w : ℕ) (o : Option Pending) → rest (fired S s w o) ≡ rest s
-fired-rest S s w (Some p) = fired_to-rest S s w p.place
-fired-rest S s w None = refl
-
-pub fired_first-rest : (S : ScenarioContents) (s : State) (o : Option ℕ) → rest (fired_first S s o).0 ≡ rest s
-fired_first-rest S s (Some w) = fired-rest S s w (pending_at s w)
-fired_first-rest S s None = refl
-
-pub queued-rest : (S : ScenarioContents) (s : State) (w cpu : ℕ) (o : Option Pending) → rest (queued S s w cpu o).0 ≡ rest s
-queued-rest S s w cpu (Some p) = refl
-queued-rest S s w cpu None = refl
-
-pub delayed-rest : (S : ScenarioContents) (s : State) (w cpu ticks : ℕ) (o : Option Pending) → rest (delayed S s w cpu ticks o).0 ≡ rest s
-delayed-rest S s w cpu ticks (Some p) = refl
-delayed-rest S s w cpu ticks None = place_after-rest S s w cpu ticks
-
-pub modified-rest : (S : ScenarioContents) (s : State) (w cpu ticks : ℕ) (o : Option Pending) → rest (modified S s w cpu ticks o).0 ≡ rest s
-modified-rest S s w cpu ticks (Some p) = place_after-rest S (taken_off S s w (Some p)) w cpu ticks ∙ taken_off-rest S s w (Some p)
-modified-rest S s w cpu ticks None = place_after-rest S s w cpu ticks
-
-pub cancelled-rest : (S : ScenarioContents) (s : State) (w : ℕ) (o : Option Pending) → rest (cancelled S s w o).0 ≡ rest s
-cancelled-rest S s w (Some p) = taken_off-rest S s w (Some p)
-cancelled-rest S s w None = refl
+pub sets-staff : (s b : State) (i : Instr) → Sets s i b → staff b ≡ staff s
+sets-staff s b i (Sets.limits q max) = refl
+sets-staff s b i set = refl

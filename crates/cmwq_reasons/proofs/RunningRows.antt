@@ -14,7 +14,8 @@ use Rattle.cmwq_reasons.specs.declared.reason.Reason.{Reason}
 use Rattle.cmwq_reasons.specs.declared.reason.Reason.TheVariants as reason
 use Rattle.cmwq_reasons.specs.Laws.{InAnyState, IsHead, TellsAsleep, TellsBehind, TellsBurns, TellsHighHas, TellsReadyAfter, TellsReadyNext, TellsWakesAfter, TellsWakesNext}
 use Rattle.cmwq_reasons.specs.Reasons.{burns_unless, is_same, mover, next_or_after, other_instance, other_work, reason_in_mode, reason_of_head, reason_of_runnable, reason_of_running, running_half, work_above, work_before}
-use Rattle.cmwq_reasons.proofs.MoverLemmas.{is_runnable_in, ready-moves, runnable-first, runnable-some, same-false, same-refl, same-true, slept-moves, some-first}
+use Rattle.cmwq_table.proofs.Choosing.{runnable-is_first}
+use Rattle.cmwq_reasons.proofs.MoverLemmas.{is_runnable_in, ready-moves, runnable-some, same-false, same-refl, same-true, slept-moves, some-first}
 
 -- of each reason, its condition
 pub data RunRow (S : ScenarioContents) (s : State) (w : ℕ) (r : Running) : Reason → Type 0 where
@@ -275,7 +276,7 @@ module _ (S : ScenarioContents) (s : State) (w : ℕ) (r : Running) where
   burns-parts is false e passes =
       let both = and_parts (is_some_work (first_runnable S s r.pool) w) (is_high r.pool || is_none (first_runnable S s (r.pool + 1))) passes in
       let first : first_runnable S s r.pool ≡ Some w = some_work-is (first_runnable S s r.pool) w both.0 in
-      let runs_there = (some-first (running_before s) (is_runnable_in s r.pool) (length S.works) (first_runnable S s r.pool) (runnable-first S s r.pool) w first).1 in
+      let runs_there = (some-first (running_before s) (is_runnable_in s r.pool) (length S.works) (first_runnable S s r.pool) (runnable-is_first S s r.pool) w first).1 in
       let mode : is_runnable r.mode ≡ true =
       (and_parts (r.pool == r.pool) (is_runnable r.mode) (ap (runs (λ q. (q.pool == r.pool) && is_runnable q.mode)) (sym is) ∙ runs_there)).1 in
       ((runnable-is r.mode mode, λ bound. first), none-above false (is_high r.pool) (first_runnable S s (r.pool + 1)) both.1)

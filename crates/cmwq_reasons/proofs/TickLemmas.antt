@@ -1,9 +1,9 @@
 -- Time passes where no instance could get on without it, and what burns then has one tick less left.
 use Rattle.std.proofs.Common.{◌≡◌, ◌⊎◌, ℕ, zero, suc, ◌+◌, ◌<◌, Bool, true, cond, List, [], ◌∷◌, length, Option, Some, None, arith, refl, sym, ap, ◌∙◌, subst, inl, inr}
-use Rattle.std.proofs.lemmas.Bool.{cases_Bool, lt-ltb}
-use Rattle.std.specs.Prelude.{is_some, nat_lt, slice_index_or}
+use Rattle.std.proofs.lemmas.Bool.{cases_Bool}
+use Rattle.std.specs.Prelude.{is_some, slice_index_or}
 use Rattle.cmwq_types.specs.Contents.{ScenarioContents}
-use Rattle.cmwq_types.specs.First.{MatchFirst, by_least, by_least_two}
+use Rattle.cmwq_types.specs.First.{by_least, by_least_two}
 use Rattle.cmwq_types.specs.Scenario.{pool_count}
 use Rattle.cmwq_types.specs.declared.instr.Instr.TheVariants as instr
 use Rattle.cmwq_types.specs.declared.moves.Move.{Move}
@@ -12,16 +12,16 @@ use Rattle.cmwq_types.specs.declared.reply.Cause.TheVariants.{Due, Pool}
 use Rattle.cmwq_types.specs.declared.reply.Place.{Place}
 use Rattle.cmwq_types.specs.declared.reply.Place.TheVariants.{Timer, Inactive, Listed, Deferred}
 use Rattle.cmwq_types.specs.declared.reply.Refusal.{Refusal}
-use Rattle.cmwq_types.specs.declared.reply.Refusal.TheVariants.{Spent, Unsettled}
+use Rattle.cmwq_types.specs.declared.reply.Refusal.TheVariants.{Unsettled}
 use Rattle.cmwq_types.specs.declared.reply.Reply.{Reply}
 use Rattle.cmwq_types.specs.declared.reply.Reply.TheVariants as reply
-use Rattle.cmwq_types.proofs.FirstLemmas.{by_least-order, first_below-is_first}
 use Rattle.cmwq_table.specs.declared.state.Pending.{Pending}
 use Rattle.cmwq_table.specs.declared.state.Running.{Running}
 use Rattle.cmwq_table.specs.State.{State, is_unbound, pending_at, running_at}
 use Rattle.cmwq_table.specs.Counts.{burns, first_due, is_due, or_else, pending_due, pending_stamp}
 use Rattle.cmwq_table.specs.Laws.{placed_in, reply_to, state_after}
 use Rattle.cmwq_table.specs.Moves.{burned, first_moving, next_move, one_less, tick}
+use Rattle.cmwq_table.proofs.Choosing.{moving-is_first}
 use Rattle.cmwq_table.specs.Table.{answer, effect, refusal, spent_all, table, unsettled}
 use Rattle.cmwq_reasons.specs.declared.reason.Instance.{Instance}
 use Rattle.cmwq_reasons.specs.declared.reason.Instance.TheVariants as instance
@@ -30,15 +30,11 @@ use Rattle.cmwq_reasons.specs.declared.reason.Reason.TheVariants as reason
 use Rattle.cmwq_reasons.specs.Laws.{BurnsInTick, HasMoment, InAnyState, MomentsPassFirst, SaysNext, is_moment, moves_next, pool_if_pending, pool_if_running, pool_of}
 use Rattle.cmwq_reasons.specs.Reasons.{moved_by, moved_instance, mover, pending_half, reason_if_pending, reason_if_running, reason_in_place, reason_of, reason_of_running, running_half, work_of}
 use Rattle.cmwq_reasons.proofs.MoverLemmas.{due-first, is_due_now, none-first, ready-moves, some-first}
-use Rattle.cmwq_reasons.proofs.NextLemmas.{accepted, due-says, moved-says, neither, pends-some, turn-moves}
+use Rattle.cmwq_reasons.proofs.NextLemmas.{due-says, moved-says, pends-some, replies, replies-by, reply-of, turn-moves}
 use Rattle.cmwq_reasons.proofs.PendingRows.{PlaceRow, place-row}
 use Rattle.cmwq_reasons.proofs.RunningRows.{RunRow, burns-from, burns-parts, burns-to, run-row}
 
 -- Which pool moves.
-
-moving-first : (S : ScenarioContents) (s : State)
-    → MatchFirst (by_least (λ pool. pool)) (λ pool. is_some (next_move S s pool)) (pool_count S) (first_moving S s)
-moving-first S s = first_below-is_first (by_least (λ pool. pool)) (λ pool. is_some (next_move S s pool)) (pool_count S) (by_least-order (λ pool. pool))
 
 moved-some : (o : Option Move) (x : Instance) → moved_by o ≡ Some x → is_some o ≡ true
 moved-some (Some move) x e = refl
@@ -51,21 +47,7 @@ some-moved None e = cc
 -- What a tick answers.
 
 abbrev tick-reply : Option Refusal → Reply
-tick-reply (Some why) = reply.Refused why
-tick-reply None = reply.Done
-
-judged : (S : ScenarioContents) (s : State) → s.spent < S.steps → refusal S s instr.Tick ≡ unsettled (first_due S s) (first_moving S s)
-judged S s more =
-    neither None (spent_all S s instr.Tick) (unsettled (first_due S s) (first_moving S s)) refl
-    (accepted (nat_lt s.spent S.steps) Spent (lt-ltb s.spent S.steps more))
-
-answers : (S : ScenarioContents) (s : State) (o : Option Refusal) → (answer S s instr.Tick o (effect S s instr.Tick)).1 ≡ tick-reply o
-answers S s (Some why) = refl
-answers S s None = refl
-
-ticks : (S : ScenarioContents) (s : State) → reply_to S s instr.Tick ≡ tick-reply (refusal S s instr.Tick)
-unfolding table
-ticks S s = answers S s (refusal S s instr.Tick)
+tick-reply o = reply-of o reply.Done
 
 -- A moment, and what is unsettled.
 
@@ -92,7 +74,7 @@ due-moment S s w found =
 
 pool-moment : (S : ScenarioContents) (s : State) (pool : ℕ) → first_moving S s ≡ Some pool → HasMoment S s
 pool-moment S s pool found =
-    let first = some-first (by_least (λ pool. pool)) (λ pool. is_some (next_move S s pool)) (pool_count S) (first_moving S s) (moving-first S s) pool found in
+    let first = some-first (by_least (λ pool. pool)) (λ pool. is_some (next_move S s pool)) (pool_count S) (first_moving S s) (moving-is_first S s) pool found in
     let x = some-moved (next_move S s pool) first.1 in
     let says : SaysNext S s pool x.0 = moved-says S s pool x.0 x.1 in (
       x.0,
@@ -158,7 +140,7 @@ by-timer None moving w e = cc
 
 moving-some : (S : ScenarioContents) (s : State) (pool : ℕ) (x : Instance) → pool < pool_count S → mover S s pool ≡ Some x → first_moving S s ≡ None → ⊥
 moving-some S s pool x within moves none =
-    none-first (by_least (λ pool. pool)) (λ pool. is_some (next_move S s pool)) (pool_count S) (first_moving S s) (moving-first S s) none pool within
+    none-first (by_least (λ pool. pool)) (λ pool. is_some (next_move S s pool)) (pool_count S) (first_moving S s) (moving-is_first S s) none pool within
     (moved-some (next_move S s pool) x moves)
 
 stirs-unsettled : (S : ScenarioContents) (s : State) → Stirs S s → (cause : Cause) × (unsettled (first_due S s) (first_moving S s) ≡ Some (Unsettled cause))
@@ -168,7 +150,7 @@ stirs-unsettled S s (inr pool) = by-pool (first_due S s) (first_moving S s) (mov
 pub moments_pass_first : InAnyState MomentsPassFirst
 unfolding MomentsPassFirst
 moments_pass_first S s more =
-    let told : reply_to S s instr.Tick ≡ tick-reply (unsettled (first_due S s) (first_moving S s)) = ticks S s ∙ ap tick-reply (judged S s more) in (
+    let told : reply_to S s instr.Tick ≡ tick-reply (unsettled (first_due S s) (first_moving S s)) = replies-by S s instr.Tick more refl in (
       λ refused. unsettled-moment S s (first_due S s) (first_moving S s) refl refl refused.0 (sym told ∙ refused.1),
       λ moment. let found = stirs-unsettled S s (instance-stirs S s moment.0 moment.1 moment.2.0 moment.2.1 moment.3 moment.4) in
           (found.0, told ∙ ap tick-reply found.1),
@@ -230,7 +212,7 @@ spent-still S s w (suc n) r there is still burning left = omega arith
 pub burns_in_tick : InAnyState BurnsInTick
 unfolding BurnsInTick
 burns_in_tick S s done w r there is within =
-    let none : refusal S s instr.Tick ≡ None = settled (refusal S s instr.Tick) (sym (ticks S s) ∙ done) in
+    let none : refusal S s instr.Tick ≡ None = settled (refusal S s instr.Tick) (sym (replies S s instr.Tick) ∙ done) in
     let runs = tick-runs S s w r none is in (
       λ told. (let burning = burns-from S s w r (reason_of_running S s w r) (run-row S s w r there is) told in
           (burning.1, runs ∙ ap (λ (b : Bool). cond b (one_less (Some r)) (Some r)) burning.0)),

@@ -15,7 +15,7 @@ use Rattle.cmwq_table.specs.State.{State, idle_at, made_at, pool_count, running_
 use Rattle.cmwq_table.specs.Counts.{free_worker, idle_stamp, is_rescuer, last_idle, new_worker, or_else}
 use Rattle.cmwq_reasons.proofs.BelowLemmas.{bit, count-changed}
 use Rattle.cmwq_reasons.proofs.MoverLemmas.{some-first}
-use Rattle.cmwq_reasons.proofs.RestLemmas.{rest}
+use Rattle.cmwq_reasons.proofs.RestLemmas.{Staff, staff}
 
 -- a worker of a pool
 pub record Post : Type 0 where
@@ -76,12 +76,12 @@ pub record Leaves (s t : State) : Type 0 where
   pub idle : t.idle ≡ s.idle
   pub made : t.made ≡ s.made
 
-pub rest-leaves : (s t : State) → rest t ≡ rest s → Leaves s t
-rest-leaves s t same = record {
-  posts = λ w. ap (λ (u : State). post_at u w) same;
-  long = ap (λ (u : State). length u.running) same;
-  idle = ap (λ (u : State). u.idle) same;
-  made = ap (λ (u : State). u.made) same;
+pub staff-leaves : (s t : State) → staff t ≡ staff s → Leaves s t
+staff-leaves s t same = record {
+  posts = λ w. ap (λ (u : Staff). post (slice_index_or u.running w None)) same;
+  long = ap (λ (u : Staff). length u.running) same;
+  idle = ap (λ (u : Staff). u.idle) same;
+  made = ap (λ (u : Staff). u.made) same;
 }
 
 -- what is written over a run with the same post leaves each post

@@ -75,27 +75,18 @@ effect-leaves S s (instr.Queue w cpu) = queued-leaves S s w cpu (pending_at s w.
 effect-leaves S s (instr.Delay w cpu ticks) = delayed-leaves S s w cpu ticks (pending_at s w.0)
 effect-leaves S s (instr.Mod w cpu ticks) = modified-leaves S s w cpu ticks (pending_at s w.0)
 effect-leaves S s (instr.Cancel w) = cancelled-leaves S s w (pending_at s w.0)
-effect-leaves S s (instr.CancelSync w) = λ told. cc
-effect-leaves S s (instr.Flush w) = λ told. cc
-effect-leaves S s (instr.FlushDelayed w) = λ told. cc
-effect-leaves S s (instr.FlushQueue q) = λ told. cc
-effect-leaves S s (instr.SetMax q max) = λ told. cc
-effect-leaves S s instr.Freeze = λ told. cc
-effect-leaves S s instr.Thaw = λ told. cc
 effect-leaves S s instr.Fire = fired-leaves S s instr.Fire (first_due S s) refl
 effect-leaves S s (instr.Step pool) = stepped-leaves S s (instr.Step pool) pool (next_move S s pool) refl
-effect-leaves S s instr.Tick = λ told. cc
 effect-leaves S s instr.Next = next-leaves S s instr.Next (first_due S s) refl
 effect-leaves S s (instr.Ask flush) = λ told. refl
 effect-leaves S s instr.Busy = λ told. refl
 effect-leaves S s (instr.State w) = λ told. refl
 effect-leaves S s (instr.Disable w) = disabled-leaves S s w (pending_at s w.0)
 effect-leaves S s (instr.Enable w) = answer-leaves s (with_depth s w.0 (depth_at s w.0 - 1)) w ((depth_at s w.0 - 1) == 0)
-effect-leaves S s instr.Pressure = λ told. cc
-effect-leaves S s instr.Relief = λ told. cc
 effect-leaves S s (instr.Until time) = next_unless-leaves S s (instr.Until time) (is_met S s (instr.Until time)) refl
 effect-leaves S s (instr.Wait flush) = next_unless-leaves S s (instr.Wait flush) (is_met S s (instr.Wait flush)) refl
 effect-leaves S s instr.Quiet = next_unless-leaves S s instr.Quiet (is_met S s instr.Quiet) refl
+effect-leaves S s i = λ told. cc
 
 -- And so a line leaves all but what is spent.
 

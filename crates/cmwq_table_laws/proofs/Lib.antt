@@ -5,3 +5,4 @@ mod LeavingLemmas
 mod LengthLemmas
 mod PoolLemmas
 mod RepeatingLemmas
+mod Stepping

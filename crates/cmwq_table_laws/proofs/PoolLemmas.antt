@@ -1,34 +1,32 @@
 -- Where works are placed: in their pool, which their queue's flags tell.
-use Rattle.std.proofs.Common.{◌≡◌, ◌⊎◌, ℕ, zero, suc, ◌+◌, ◌*◌, Bool, true, false, cond, ◌||◌, List, [], ◌∷◌, length, Option, Some, None, arith, refl, sym, ap, ◌∙◌, subst, inl, inr}
+use Rattle.std.proofs.Common.{◌≡◌, ◌⊎◌, ℕ, zero, suc, ◌+◌, ◌*◌, Bool, true, false, ◌||◌, List, [], ◌∷◌, Option, Some, None, arith, refl, sym, ap, ◌∙◌, subst, inl, inr}
 use Rattle.std.proofs.lemmas.Bool.{cases_eq}
 use Rattle.std.proofs.lemmas.List.{get_or-set_other}
-use Rattle.std.specs.Prelude.{◌≢◌, if◌then◌else◌, slice_index_or, slice_set}
+use Rattle.std.specs.Prelude.{if◌then◌else◌, slice_index_or, slice_set}
 use Rattle.cmwq_types.specs.Contents.{ScenarioContents}
-use Rattle.cmwq_types.specs.Scenario.{flags_at, op_at, queue_of, local_cpu}
+use Rattle.cmwq_types.specs.Scenario.{flags_at, op_at, queue_of}
 use Rattle.cmwq_types.specs.declared.instr.Instr.{Instr}
 use Rattle.cmwq_types.specs.declared.instr.Instr.TheVariants as instr
 use Rattle.cmwq_types.specs.declared.instr.WorkId.{WorkId}
-use Rattle.cmwq_types.specs.declared.moves.Move.{Move}
-use Rattle.cmwq_types.specs.declared.moves.Move.TheVariants.{Advance, Wake, Start, Defer, Rescue}
-use Rattle.cmwq_types.specs.declared.reply.Event.{Event}
 use Rattle.cmwq_types.specs.declared.reply.Event.TheVariants as event
-use Rattle.cmwq_types.specs.declared.reply.Place.{Place}
-use Rattle.cmwq_types.specs.declared.reply.Place.TheVariants.{Timer, Inactive, Listed, Deferred}
+use Rattle.cmwq_types.specs.declared.reply.Place.TheVariants.{Timer, Inactive, Listed}
 use Rattle.cmwq_types.specs.declared.reply.Refusal.{Refusal}
 use Rattle.cmwq_types.specs.declared.reply.Reply.{Reply}
 use Rattle.cmwq_types.specs.declared.reply.Reply.TheVariants as reply
 use Rattle.cmwq_types.specs.declared.scenario.Flags.{Flags}
 use Rattle.cmwq_types.specs.declared.scenario.Op.{Op}
 use Rattle.cmwq_types.specs.declared.scenario.Op.TheVariants as op
-use Rattle.cmwq_table.specs.Counts.{first_due, first_inactive, has_room, is_deferred}
-use Rattle.cmwq_table.specs.Laws.{AtEveryInstruction, placed_in, reply_to, state_after}
-use Rattle.cmwq_table.specs.Moves.{advance, begin_again, carry_out, come_to_end, enlist, fill_from, fill_one, fill_times, fire, fired, fired_to, first_moving, next_move, onward, place, pool_for, pool_or, queue_from_body, retire, taken_off, with_pending, delay_from_body, mod_from_body}
+use Rattle.cmwq_table.specs.Counts.{first_due, has_room}
+use Rattle.cmwq_table.specs.Laws.{AtEveryInstruction, placed_in, reply_to}
+use Rattle.cmwq_table.specs.Moves.{carry_out, fire, fired, fired_to, first_moving, onward, place, pool_for, pool_or, queue_from_body, taken_off, with_pending}
 use Rattle.cmwq_table.specs.State.{State, is_disabled, pending_at, running_at, target}
-use Rattle.cmwq_table.specs.Table.{delayed, effect, fired_first, modified, next, queued, run, step_or_tick, stepped}
+use Rattle.cmwq_table.specs.Table.{delayed, effect, fired_first, modified, next, queued, run}
 use Rattle.cmwq_table.specs.declared.state.Pending.{Pending}
 use Rattle.cmwq_table.specs.declared.state.Running.{Running}
 use Rattle.cmwq_table_laws.specs.Pools.{BodiesPlaceInPool, FiresToPool, IsAskedAtOnce, IsPlacedByFlags, IsToldByFlags, PlacesInPool}
-use Rattle.cmwq_table_laws.proofs.AcceptingLemmas.{carried-out, told-none}
+use Rattle.cmwq_table_laws.proofs.AcceptingLemmas.{at-effect}
+use Rattle.cmwq_table_laws.proofs.LengthLemmas.{taken_off-keeps}
+use Rattle.cmwq_table_laws.proofs.Stepping.{at-instruction, at-move}
 
 -- What the flags tell.
 
@@ -59,7 +57,11 @@ is_placed_by_flags S s w cpu =
           (told-by_flags S.cpus (flags_at S (queue_of S w)) cpu),
     )
 
--- A work that is placed.
+-- A work item that is placed.
+
+-- if the work item is pending there, it is placed in its pool
+abbrev pub InPool : ScenarioContents → State → (w cpu : ℕ) → List (Option Pending) → Type 0
+InPool S s w cpu pending = (p : Pending) → slice_index_or pending w None ≡ Some p → placed_in p.place ≡ Some (pool_for S s w cpu)
 
 set-is : (xs : List (Option Pending)) (w : ℕ) (q p : Pending) → slice_index_or (slice_set xs w (Some q)) w None ≡ Some p → q ≡ p
 set-is [] w q p e = cc
@@ -70,77 +72,96 @@ either-placed : (b : Bool) (pool : ℕ) → placed_in (if b then Listed pool els
 either-placed true pool = refl
 either-placed false pool = refl
 
-pub place-in_pool : (S : ScenarioContents) (s : State) (w cpu : ℕ) (p : Pending) → pending_at (place S s w cpu) w ≡ Some p → placed_in p.place ≡ Some (pool_for S s w cpu)
+pub place-in_pool : (S : ScenarioContents) (s : State) (w cpu : ℕ) → InPool S s w cpu (place S s w cpu).pending
 place-in_pool S s w cpu p is =
     let pool = pool_for S s w cpu in
     let room = has_room S s (queue_of S w) pool in
     let new : Pending = record { born = s.next; stamp = s.next; place = if room then Listed pool else Inactive pool } in
     subst (λ (q : Pending). placed_in q.place ≡ Some pool) (set-is s.pending w new p is) (either-placed room pool)
 
--- Taking off changes nothing of what runs.
+-- the pool is the same, if the same instances run
+pub same-pool : (S : ScenarioContents) (s t : State) (w cpu : ℕ) → t.running ≡ s.running → pool_for S t w cpu ≡ pool_for S s w cpu
+same-pool S s t w cpu same = ap (λ (running : List (Option Running)). pool_or (slice_index_or running w None) (target S (queue_of S w) cpu)) same
 
-enlist-running : (s : State) (pool : ℕ) (o : Option ℕ) → (enlist s pool o).running ≡ s.running
-enlist-running s pool (Some w) = refl
-enlist-running s pool None = refl
+-- Instructions.
 
-fill_times-running : (S : ScenarioContents) (queue pool n : ℕ) (s : State) → (fill_times S queue pool n s).running ≡ s.running
-fill_times-running S queue pool zero s = refl
-fill_times-running S queue pool (suc n) s =
-    fill_times-running S queue pool n (fill_one S queue pool s)
-    ∙ enlist-running s pool (if has_room S s queue pool then first_inactive S s queue pool else None)
-
-fill_from-running : (S : ScenarioContents) (queue : ℕ) (at : Place) (s : State) → (fill_from S queue at s).running ≡ s.running
-fill_from-running S queue (Timer due cpu) s = refl
-fill_from-running S queue (Inactive pool) s = fill_times-running S queue pool (length S.works) s
-fill_from-running S queue (Listed pool) s = fill_times-running S queue pool (length S.works) s
-fill_from-running S queue (Deferred pool) s = fill_times-running S queue pool (length S.works) s
-
-taken_off-pool : (S : ScenarioContents) (s : State) (w cpu : ℕ) (p : Pending) → pool_for S (taken_off S s w (Some p)) w cpu ≡ pool_for S s w cpu
-taken_off-pool S s w cpu p =
-    ap (λ (running : List (Option Running)). pool_or (slice_index_or running w None) (target S (queue_of S w) cpu))
-    (fill_from-running S (queue_of S w) p.place (with_pending s w None))
-
--- The table's words.
-
--- the reply tells that the work was placed, or put on a timer
+-- the reply says that the work item was placed, or put on a timer
 abbrev TellsPlaced : Reply → Type 0
 TellsPlaced r = (r ≡ reply.Queued) ⊎ (r ≡ reply.Changed)
 
 already-placed : TellsPlaced reply.Already → ⊥
 already-placed told = elim told [ inl e ↦ cc | inr e ↦ cc ]
 
-queued-in_pool : (S : ScenarioContents) (s : State) (w cpu : ℕ) (o : Option Pending) (p : Pending) → TellsPlaced (queued S s w cpu o).1
-    → pending_at (queued S s w cpu o).0 w ≡ Some p → placed_in p.place ≡ Some (pool_for S s w cpu)
-queued-in_pool S s w cpu (Some q) p told is = absurd (already-placed told)
-queued-in_pool S s w cpu None p told is = place-in_pool S s w cpu p is
+no-refusal : (r : Reply) (why : Refusal) → TellsPlaced r → r ≡ reply.Refused why → ⊥
+no-refusal r why (inl e) refused = cc
+no-refusal r why (inr e) refused = cc
 
-delayed-in_pool : (S : ScenarioContents) (s : State) (w cpu : ℕ) (o : Option Pending) (p : Pending) → TellsPlaced (delayed S s w cpu 0 o).1
-    → pending_at (delayed S s w cpu 0 o).0 w ≡ Some p → placed_in p.place ≡ Some (pool_for S s w cpu)
-delayed-in_pool S s w cpu (Some q) p told is = absurd (already-placed told)
-delayed-in_pool S s w cpu None p told is = place-in_pool S s w cpu p is
+module _ (S : ScenarioContents) (s : State) (work : WorkId) (cpu : ℕ) where
+  -- the pool is that of the state before
+  abbrev Placed : State × Reply → Type 0
+  Placed after = TellsPlaced after.1 → InPool S s work.0 cpu after.0.pending
 
-modified-in_pool : (S : ScenarioContents) (s : State) (w cpu : ℕ) (o : Option Pending) (p : Pending)
-    → pending_at (modified S s w cpu 0 o).0 w ≡ Some p → placed_in p.place ≡ Some (pool_for S s w cpu)
-modified-in_pool S s w cpu (Some q) p is = place-in_pool S (taken_off S s w (Some q)) w cpu p is ∙ ap Some (taken_off-pool S s w cpu q)
-modified-in_pool S s w cpu None p is = place-in_pool S s w cpu p is
+  queued-in_pool : (o : Option Pending) → Placed (queued S s work.0 cpu o)
+  queued-in_pool (Some q) told = absurd (already-placed told)
+  queued-in_pool None told = place-in_pool S s work.0 cpu
+
+  delayed-in_pool : (o : Option Pending) → Placed (delayed S s work.0 cpu 0 o)
+  delayed-in_pool (Some q) told = absurd (already-placed told)
+  delayed-in_pool None told = place-in_pool S s work.0 cpu
+
+  modified-in_pool : (o : Option Pending) → Placed (modified S s work.0 cpu 0 o)
+  modified-in_pool (Some q) told =
+      let off = taken_off S s work.0 (Some q) in
+      λ p is. place-in_pool S off work.0 cpu p is ∙ ap Some (same-pool S s off work.0 cpu (taken_off-keeps S s work.0 (Some q)).running)
+  modified-in_pool None told = place-in_pool S s work.0 cpu
+
+  asked-in_pool : (i : Instr) → IsAskedAtOnce i work cpu → Placed (effect S s i)
+  asked-in_pool i (inl queue) = subst (λ (j : Instr). Placed (effect S s j)) (sym queue) (queued-in_pool (pending_at s work.0))
+  asked-in_pool i (inr (inl delay)) = subst (λ (j : Instr). Placed (effect S s j)) (sym delay) (delayed-in_pool (pending_at s work.0))
+  asked-in_pool i (inr (inr modify)) = subst (λ (j : Instr). Placed (effect S s j)) (sym modify) (modified-in_pool (pending_at s work.0))
+
+pub places_in_pool : AtEveryInstruction PlacesInPool
+unfolding PlacesInPool
+places_in_pool S valid instrs i work cpu asked told =
+    let s = run S instrs in
+    at-effect S s i (λ (r : Reply) (pending : List (Option Pending)). TellsPlaced r → InPool S s work.0 cpu pending) (λ why refused. no-refusal (reply_to S s i) why told refused)
+    (asked-in_pool S s work cpu i asked) told
+
+-- Timers.
 
 same-work : (v : ℕ) (work : WorkId) → record { 0 = v } ≡ work → v ≡ work.0
 same-work v work e = ap (λ (w : WorkId). w.0) e
 
-fired-is : (S : ScenarioContents) (s : State) (w : ℕ) (timer : Pending) (due cpu : ℕ) → pending_at s w ≡ Some timer → timer.place ≡ Timer due cpu
-    → fire S s w ≡ place S (with_pending s w None) w cpu
-fired-is S s w timer due cpu is at = ap (λ (o : Option Pending). fired S s w o) is ∙ ap (λ (there : Place). fired_to S s w there) at
+module _ (S : ScenarioContents) (s : State) (work : WorkId) (timer : Pending) (due cpu : ℕ) (pends : pending_at s work.0 ≡ Some timer) (at : timer.place ≡ Timer due cpu) where
+  -- it is placed, if the reply says that its timer has fired
+  abbrev Fired : State × Reply → Type 0
+  Fired after = after.1 ≡ reply.Event work event.Fires → InPool S s work.0 cpu after.0.pending
 
-fired-in_pool : (S : ScenarioContents) (s : State) (work : WorkId) (timer : Pending) (due cpu : ℕ) (o : Option ℕ) (p : Pending)
-    → (fired_first S s o).1 ≡ reply.Event work event.Fires → pending_at s work.0 ≡ Some timer → timer.place ≡ Timer due cpu
-    → pending_at (fired_first S s o).0 work.0 ≡ Some p → placed_in p.place ≡ Some (pool_for S s work.0 cpu)
-fired-in_pool S s work timer due cpu (Some v) p told pends at is =
-    let named : record { 0 = v } ≡ work = cc in
-    let there : pending_at (fire S s work.0) work.0 ≡ Some p = subst (λ (w : ℕ). pending_at (fire S s w) work.0 ≡ Some p) (same-work v work named) is in
-    let placed : pending_at (place S (with_pending s work.0 None) work.0 cpu) work.0 ≡ Some p =
-    subst (λ (t : State). pending_at t work.0 ≡ Some p) (fired-is S s work.0 timer due cpu pends at) there in
-    place-in_pool S (with_pending s work.0 None) work.0 cpu p placed
-fired-in_pool S s work timer due cpu None p told pends at is = cc
+  fired-in_pool : (o : Option ℕ) → Fired (fired_first S s o)
+  fired-in_pool (Some v) told =
+      let named : record { 0 = v } ≡ work = cc in
+      let is : fire S s v ≡ place S (with_pending s work.0 None) work.0 cpu =
+      ap (fire S s) (same-work v work named) ∙ ap (fired S s work.0) pends ∙ ap (fired_to S s work.0) at in
+      subst (λ (t : State). InPool S s work.0 cpu t.pending) (sym is) (place-in_pool S (with_pending s work.0 None) work.0 cpu)
+  fired-in_pool None told = absurd cc
+
+  -- `next` fires a timer, or else moves a pool, of which nothing fires
+  next-in_pool : (o : Option ℕ) → Fired (next S s o)
+  next-in_pool (Some v) told = fired-in_pool (Some v) told
+  next-in_pool None told = absurd (at-move S s work event.Fires refl (λ pending. ⊥) (λ r o is at says told. says) (first_moving S s) told)
+
+  fires-in_pool : (i : Instr) → (i ≡ instr.Fire) ⊎ (i ≡ instr.Next) → Fired (effect S s i)
+  fires-in_pool i (inl same) = subst (λ (j : Instr). Fired (effect S s j)) (sym same) (fired-in_pool (first_due S s))
+  fires-in_pool i (inr same) = subst (λ (j : Instr). Fired (effect S s j)) (sym same) (next-in_pool (first_due S s))
+
+pub fires_to_pool : AtEveryInstruction FiresToPool
+unfolding FiresToPool
+fires_to_pool S valid instrs i work timer due cpu which told pends at =
+    let s = run S instrs in
+    at-effect S s i (λ (r : Reply) (pending : List (Option Pending)). r ≡ reply.Event work event.Fires → InPool S s work.0 cpu pending)
+    (λ why refused. (let no : reply.Event work event.Fires ≡ reply.Refused why = sym told ∙ refused in cc)) (fires-in_pool S s work timer due cpu pends at i which) told
+
+-- Bodies.
 
 -- A body goes on by one operation, and runs in the same pool.
 pub onward-pool : (S : ScenarioContents) (s : State) (v w cpu : ℕ) (r : Running) → running_at s v ≡ Some r → pool_for S (onward s v r) w cpu ≡ pool_for S s w cpu
@@ -156,179 +177,22 @@ onward-pool S s v w cpu r runs =
     onward-own (x ∷ xs) zero r elsewhere is = sym (ap (λ (o : Option Running). pool_or o elsewhere) is)
     onward-own (x ∷ xs) (suc v) r elsewhere is = onward-own xs v r elsewhere is
 
-body-in_pool : (S : ScenarioContents) (s : State) (other : WorkId) (cpu : ℕ) (b : Bool) (o : Option Pending) (p : Pending)
-    → (queue_from_body S s other cpu b o).1 ≡ event.Queues other false → pending_at (queue_from_body S s other cpu b o).0 other.0 ≡ Some p
-    → placed_in p.place ≡ Some (pool_for S s other.0 cpu)
-body-in_pool S s other cpu true o p told is = cc
-body-in_pool S s other cpu false (Some q) p told is = cc
-body-in_pool S s other cpu false None p told is = place-in_pool S s other.0 cpu p is
+module _ (S : ScenarioContents) (s : State) (w : ℕ) (r : Running) (runs : running_at s w ≡ Some r) (other : WorkId) (cpu : ℕ) where
+  body-in_pool : (b : Bool) (o : Option Pending) → (queue_from_body S (onward s w r) other cpu b o).1 ≡ event.Queues other false
+      → InPool S s other.0 cpu (queue_from_body S (onward s w r) other cpu b o).0.pending
+  body-in_pool true o told = absurd cc
+  body-in_pool false (Some q) told = absurd cc
+  body-in_pool false None told = λ p is. place-in_pool S (onward s w r) other.0 cpu p is ∙ ap Some (onward-pool S s w other.0 cpu r runs)
 
-carried-in_pool : (S : ScenarioContents) (s : State) (v : ℕ) (r : Running) (other : WorkId) (cpu : ℕ) (o : Op) (p : Pending) → running_at s v ≡ Some r
-    → o ≡ op.Queue other cpu → (carry_out S s v r o).1 ≡ event.Queues other false → pending_at (carry_out S s v r o).0 other.0 ≡ Some p
-    → placed_in p.place ≡ Some (pool_for S s other.0 cpu)
-carried-in_pool S s v r other cpu o p runs here =
-    subst (λ (x : Op). (carry_out S s v r x).1 ≡ event.Queues other false → pending_at (carry_out S s v r x).0 other.0 ≡ Some p → placed_in p.place ≡ Some (pool_for S s other.0 cpu)) (sym here)
-    (λ told is. body-in_pool S (onward s v r) other cpu (is_disabled s other.0) (pending_at s other.0) p told is ∙ ap Some (onward-pool S s v other.0 cpu r runs))
-
-advanced-in_pool : (S : ScenarioContents) (s : State) (v : ℕ) (r : Running) (other : WorkId) (cpu : ℕ) (o : Option Running) (p : Pending) → running_at s v ≡ Some r
-    → o ≡ Some r → op_at S v r.pc ≡ op.Queue other cpu → (advance S s v o).1 ≡ event.Queues other false
-    → pending_at (advance S s v o).0 other.0 ≡ Some p → placed_in p.place ≡ Some (pool_for S s other.0 cpu)
-advanced-in_pool S s v r other cpu o p runs here named =
-    subst (λ (x : Option Running). (advance S s v x).1 ≡ event.Queues other false → pending_at (advance S s v x).0 other.0 ≡ Some p → placed_in p.place ≡ Some (pool_for S s other.0 cpu)) (sym here)
-    (carried-in_pool S s v r other cpu (op_at S v r.pc) p runs named)
-
-stepped-in_pool : (S : ScenarioContents) (s : State) (pool : ℕ) (work other : WorkId) (r : Running) (cpu : ℕ) (o : Option Move) (p : Pending)
-    → (stepped S s pool o).1 ≡ reply.Event work (event.Queues other false) → running_at s work.0 ≡ Some r → op_at S work.0 r.pc ≡ op.Queue other cpu
-    → pending_at (stepped S s pool o).0 other.0 ≡ Some p → placed_in p.place ≡ Some (pool_for S s other.0 cpu)
-stepped-in_pool S s pool work other r cpu (Some (Advance v)) p told runs named is =
-    let same : v ≡ work = cc in
-    let queues : (advance S s v.0 (running_at s v.0)).1 ≡ event.Queues other false = cc in
-    let v_runs : running_at s v.0 ≡ Some r = ap (λ (x : WorkId). running_at s x.0) same ∙ runs in
-    let v_named : op_at S v.0 r.pc ≡ op.Queue other cpu = ap (λ (x : WorkId). op_at S x.0 r.pc) same ∙ named in
-    advanced-in_pool S s v.0 r other cpu (running_at s v.0) p v_runs v_runs v_named queues is
-stepped-in_pool S s pool work other r cpu (Some (Wake v)) p told runs named is = cc
-stepped-in_pool S s pool work other r cpu (Some (Start v)) p told runs named is = cc
-stepped-in_pool S s pool work other r cpu (Some (Defer v)) p told runs named is = cc
-stepped-in_pool S s pool work other r cpu (Some (Rescue v)) p told runs named is = cc
-stepped-in_pool S s pool work other r cpu None p told runs named is = cc
-
--- `next` fires a timer, or else moves a pool, of which nothing fires.
-
-from_body-fires : (S : ScenarioContents) (s : State) (other : WorkId) (cpu : ℕ) (b : Bool) (o : Option Pending) → (queue_from_body S s other cpu b o).1 ≡ event.Fires → ⊥
-from_body-fires S s other cpu true o e = cc
-from_body-fires S s other cpu false (Some p) e = cc
-from_body-fires S s other cpu false None e = cc
-
-delays-fires : (S : ScenarioContents) (s : State) (other : WorkId) (cpu ticks : ℕ) (b : Bool) (o : Option Pending) → (delay_from_body S s other cpu ticks b o).1 ≡ event.Fires → ⊥
-delays-fires S s other cpu ticks true o e = cc
-delays-fires S s other cpu ticks false (Some p) e = cc
-delays-fires S s other cpu ticks false None e = cc
-
-mods-fires : (S : ScenarioContents) (s : State) (other : WorkId) (cpu ticks : ℕ) (b : Bool) (o : Option Pending) → (mod_from_body S s other cpu ticks b o).1 ≡ event.Fires → ⊥
-mods-fires S s other cpu ticks true o e = cc
-mods-fires S s other cpu ticks false o e = cc
-
-either-fires : (b : Bool) (x y : State × Event) → (x.1 ≡ event.Fires → ⊥) → (y.1 ≡ event.Fires → ⊥) → (cond {A = State × Event} b x y).1 ≡ event.Fires → ⊥
-either-fires true x y first second e = first e
-either-fires false x y first second e = second e
-
-ended-fires : (s : State) (w : ℕ) (r : Running) (o : Option Pending) → (come_to_end s w r o).1 ≡ event.Fires → ⊥
-ended-fires s w r (Some p) e =
-    either-fires (is_deferred p.place) (begin_again s w r p, event.FinishesAndStarts) (retire s w r, event.Finishes) (λ h. cc) (λ h. cc) e
-ended-fires s w r None e = cc
-
-carried-fires : (S : ScenarioContents) (s : State) (w : ℕ) (r : Running) (o : Op) → (carry_out S s w r o).1 ≡ event.Fires → ⊥
-carried-fires S s w r (op.Burn ticks) e = cc
-carried-fires S s w r (op.Sleep ticks) e = cc
-carried-fires S s w r (op.Queue other cpu) e = from_body-fires S (onward s w r) other cpu (is_disabled s other.0) (pending_at s other.0) e
-carried-fires S s w r op.Finish e = ended-fires s w r (pending_at s w) e
-carried-fires S s w r (op.Delay other ticks) e = delays-fires S (onward s w r) other (local_cpu S r.pool) ticks (is_disabled s other.0) (pending_at s other.0) e
-carried-fires S s w r (op.Mod other ticks) e = mods-fires S (onward s w r) other (local_cpu S r.pool) ticks (is_disabled s other.0) (pending_at s other.0) e
-carried-fires S s w r (op.Cancel other) e = cc
-
-advanced-fires : (S : ScenarioContents) (s : State) (w : ℕ) (o : Option Running) → (advance S s w o).1 ≡ event.Fires → ⊥
-advanced-fires S s w (Some r) e = carried-fires S s w r (op_at S w r.pc) e
-advanced-fires S s w None e = cc
-
-stepped-fires : (S : ScenarioContents) (s : State) (pool : ℕ) (work : WorkId) (o : Option Move) → (stepped S s pool o).1 ≡ reply.Event work event.Fires → ⊥
-stepped-fires S s pool work (Some (Advance v)) e =
-    let fires : (advance S s v.0 (running_at s v.0)).1 ≡ event.Fires = cc in advanced-fires S s v.0 (running_at s v.0) fires
-stepped-fires S s pool work (Some (Wake v)) e = cc
-stepped-fires S s pool work (Some (Start v)) e = cc
-stepped-fires S s pool work (Some (Defer v)) e = cc
-stepped-fires S s pool work (Some (Rescue v)) e = cc
-stepped-fires S s pool work None e = cc
-
-moved-fires : (S : ScenarioContents) (s : State) (work : WorkId) (o : Option ℕ) → (step_or_tick S s o).1 ≡ reply.Event work event.Fires → ⊥
-moved-fires S s work (Some pool) e = stepped-fires S s pool work (next_move S s pool) e
-moved-fires S s work None e = cc
-
-next_fired-in_pool : (S : ScenarioContents) (s : State) (work : WorkId) (timer : Pending) (due cpu : ℕ) (o : Option ℕ) (p : Pending)
-    → (next S s o).1 ≡ reply.Event work event.Fires → pending_at s work.0 ≡ Some timer → timer.place ≡ Timer due cpu
-    → pending_at (next S s o).0 work.0 ≡ Some p → placed_in p.place ≡ Some (pool_for S s work.0 cpu)
-next_fired-in_pool S s work timer due cpu (Some v) p told pends at is = fired-in_pool S s work timer due cpu (Some v) p told pends at is
-next_fired-in_pool S s work timer due cpu None p told pends at is = absurd (moved-fires S s work (first_moving S s) told)
-
-moved-in_pool : (S : ScenarioContents) (s : State) (work other : WorkId) (r : Running) (cpu : ℕ) (o : Option ℕ) (p : Pending)
-    → (step_or_tick S s o).1 ≡ reply.Event work (event.Queues other false) → running_at s work.0 ≡ Some r → op_at S work.0 r.pc ≡ op.Queue other cpu
-    → pending_at (step_or_tick S s o).0 other.0 ≡ Some p → placed_in p.place ≡ Some (pool_for S s other.0 cpu)
-moved-in_pool S s work other r cpu (Some pool) p told runs named is = stepped-in_pool S s pool work other r cpu (next_move S s pool) p told runs named is
-moved-in_pool S s work other r cpu None p told runs named is = cc
-
-next_stepped-in_pool : (S : ScenarioContents) (s : State) (work other : WorkId) (r : Running) (cpu : ℕ) (o : Option ℕ) (p : Pending)
-    → (next S s o).1 ≡ reply.Event work (event.Queues other false) → running_at s work.0 ≡ Some r → op_at S work.0 r.pc ≡ op.Queue other cpu
-    → pending_at (next S s o).0 other.0 ≡ Some p → placed_in p.place ≡ Some (pool_for S s other.0 cpu)
-next_stepped-in_pool S s work other r cpu (Some v) p told runs named is = cc
-next_stepped-in_pool S s work other r cpu None p told runs named is = moved-in_pool S s work other r cpu (first_moving S s) p told runs named is
-
--- Instructions.
-
--- what the instruction comes to is what its effect is, but for the steps spent
-pub effect-told : (S : ScenarioContents) (s : State) (i : Instr) (r : Reply) → ((why : Refusal) → r ≢ reply.Refused why) → reply_to S s i ≡ r → (effect S s i).1 ≡ r
-effect-told S s i r other e = ap (λ (after : State × Reply). after.1) (sym (carried-out S s i (told-none S s i r other e))) ∙ e
-
-effect-pending : (S : ScenarioContents) (s : State) (i : Instr) (r : Reply) (w : ℕ) (p : Pending) → ((why : Refusal) → r ≢ reply.Refused why) → reply_to S s i ≡ r
-    → pending_at (state_after S s i) w ≡ Some p → pending_at (effect S s i).0 w ≡ Some p
-effect-pending S s i r w p other e is =
-    ap (λ (after : State × Reply). pending_at after.0 w) (sym (carried-out S s i (told-none S s i r other e))) ∙ is
-
-module _ (S : ScenarioContents) (s : State) (work : WorkId) (cpu : ℕ) (p : Pending) where
-  asked-in_pool : (i : Instr) (r : Reply) → IsAskedAtOnce i work cpu → TellsPlaced r → (effect S s i).1 ≡ r → pending_at (effect S s i).0 work.0 ≡ Some p
-      → placed_in p.place ≡ Some (pool_for S s work.0 cpu)
-  asked-in_pool i r asked told e is =
-      let here : TellsPlaced (effect S s i).1 = subst TellsPlaced (sym e) told in
-      elim asked [
-        | inl queue ↦ queued-in_pool S s work.0 cpu (pending_at s work.0) p (subst (λ (j : Instr). TellsPlaced (effect S s j).1) queue here) (subst (λ (j : Instr). pending_at (effect S s j).0 work.0 ≡ Some p) queue is)
-        | inr others ↦ elim others [
-          | inl delay ↦ delayed-in_pool S s work.0 cpu (pending_at s work.0) p (subst (λ (j : Instr). TellsPlaced (effect S s j).1) delay here) (subst (λ (j : Instr). pending_at (effect S s j).0 work.0 ≡ Some p) delay is)
-          | inr modify ↦ modified-in_pool S s work.0 cpu (pending_at s work.0) p (subst (λ (j : Instr). pending_at (effect S s j).0 work.0 ≡ Some p) modify is)
-        ]
-      ]
-
-  placed-in_pool : (i : Instr) (r : Reply) → ((why : Refusal) → r ≢ reply.Refused why) → TellsPlaced r → IsAskedAtOnce i work cpu → reply_to S s i ≡ r
-      → pending_at (state_after S s i) work.0 ≡ Some p → placed_in p.place ≡ Some (pool_for S s work.0 cpu)
-  placed-in_pool i r other told asked e is = asked-in_pool i r asked told (effect-told S s i r other e) (effect-pending S s i r work.0 p other e is)
-
-pub places_in_pool : AtEveryInstruction PlacesInPool
-unfolding PlacesInPool
-places_in_pool S valid instrs i work cpu asked told p is =
-    elim told [
-      | inl e ↦ placed-in_pool S (run S instrs) work cpu p i reply.Queued (λ why refused. cc) (inl refl) asked e is
-      | inr e ↦ placed-in_pool S (run S instrs) work cpu p i reply.Changed (λ why refused. cc) (inr refl) asked e is
-    ]
-
--- the same of another instruction, which is this one
-there-if : (S : ScenarioContents) (s : State) (i j : Instr) (r : Reply) (w : ℕ) (p : Pending) → i ≡ j → reply_to S s i ≡ r → pending_at (state_after S s i) w ≡ Some p
-    → (reply_to S s j ≡ r) × (pending_at (state_after S s j) w ≡ Some p)
-there-if S s i j r w p same e is =
-    subst (λ (k : Instr). (reply_to S s k ≡ r) × (pending_at (state_after S s k) w ≡ Some p)) same (e, is)
-
-pub fires_to_pool : AtEveryInstruction FiresToPool
-unfolding FiresToPool
-fires_to_pool S valid instrs i work timer due cpu which told pends at p is =
-    let s = run S instrs in
-    let fires : Reply = reply.Event work event.Fires in
-    let other : (why : Refusal) → fires ≢ reply.Refused why = λ why refused. cc in
-    elim which [
-      | inl same ↦ (let here = there-if S s i instr.Fire fires work.0 p same told is in
-          fired-in_pool S s work timer due cpu (first_due S s) p (effect-told S s instr.Fire fires other here.0) pends at
-          (effect-pending S s instr.Fire fires work.0 p other here.0 here.1))
-      | inr same ↦ (let here = there-if S s i instr.Next fires work.0 p same told is in
-          next_fired-in_pool S s work timer due cpu (first_due S s) p (effect-told S s instr.Next fires other here.0) pends at
-          (effect-pending S s instr.Next fires work.0 p other here.0 here.1))
-    ]
+  carried-in_pool : (o : Op) → o ≡ op.Queue other cpu → (carry_out S s w r o).1 ≡ event.Queues other false → InPool S s other.0 cpu (carry_out S s w r o).0.pending
+  carried-in_pool o named =
+      subst (λ (x : Op). (carry_out S s w r x).1 ≡ event.Queues other false → InPool S s other.0 cpu (carry_out S s w r x).0.pending) (sym named)
+      (body-in_pool (is_disabled s other.0) (pending_at s other.0))
 
 pub bodies_place_in_pool : AtEveryInstruction BodiesPlaceInPool
 unfolding BodiesPlaceInPool
-bodies_place_in_pool S valid instrs i pool work other r cpu which told runs named p is =
+bodies_place_in_pool S valid instrs i pool work other r cpu which told runs named =
     let s = run S instrs in
-    let queues : Reply = reply.Event work (event.Queues other false) in
-    let no_refusal : (why : Refusal) → queues ≢ reply.Refused why = λ why refused. cc in
-    elim which [
-      | inl same ↦ (let here = there-if S s i (instr.Step pool) queues other.0 p same told is in
-          stepped-in_pool S s pool work other r cpu (next_move S s pool) p (effect-told S s (instr.Step pool) queues no_refusal here.0) runs named
-          (effect-pending S s (instr.Step pool) queues other.0 p no_refusal here.0 here.1))
-      | inr same ↦ (let here = there-if S s i instr.Next queues other.0 p same told is in
-          next_stepped-in_pool S s work other r cpu (first_due S s) p (effect-told S s instr.Next queues no_refusal here.0) runs named
-          (effect-pending S s instr.Next queues other.0 p no_refusal here.0 here.1))
-    ]
+    at-instruction S s work (event.Queues other false) refl (InPool S s other.0 cpu)
+    (λ q o is at says. (let same : q ≡ r = cc in carried-in_pool S s work.0 q is other cpu o (sym at ∙ ap (λ (x : Running). op_at S work.0 x.pc) same ∙ named)))
+    (λ fires. cc) pool i which told
