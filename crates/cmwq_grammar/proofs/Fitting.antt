@@ -1,5 +1,5 @@
 -- From the tests that reading and listing make to what holds of every scenario, and back.
-use Rattle.std.proofs.Common.{◌≡◌, ℕ, ◌<◌, ◌≤◌, ◌^◌, true, ◌&&◌, List, [], ◌∷◌, ◌++◌, ltb, eqb, cond, arith, refl}
+use Rattle.std.proofs.Common.{◌≡◌, ℕ, ◌<◌, ◌≤◌, true, List, [], ◌∷◌, ◌++◌, ltb, eqb, cond, arith, refl}
 use Rattle.std.specs.List.{AllByRecursion, list_all}
 use Rattle.cmwq_types.specs.Contents.{WorkContents}
 use Rattle.cmwq_types.specs.Faults.{fits_flags, within}

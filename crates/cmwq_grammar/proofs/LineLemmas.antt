@@ -21,7 +21,7 @@ use Rattle.cmwq_types.specs.declared.scenario.Flags.{Flags}
 use Rattle.cmwq_types.specs.declared.scenario.Op.{Op}
 use Rattle.cmwq_types.specs.declared.scenario.Op.TheVariants as op
 use Rattle.cmwq_types.specs.declared.scenario.QueueDecl.{QueueDecl}
-use Rattle.cmwq_grammar.specs.LineFields.{◌>>=◌, after_word, declared_at, ended, made_last, new_name_at, number_at, number_where}
+use Rattle.cmwq_grammar.specs.LineFields.{◌>>=◌, after_word, declared_at, made_last, new_name_at, number_at, number_where}
 use Rattle.cmwq_grammar.specs.Grammar.{Says}
 use Rattle.cmwq_grammar.specs.Instructions.{cannot_stand, queue_names, work_names}
 use Rattle.cmwq_grammar.specs.LineReasons.{flags_at_line, made_op, not_in_body, op_at_line, op_named, op_operands_at, queue_at_line, queue_of_flags, then_cpu, then_flags, then_max, then_number, then_queue, then_ticks, work_at_line, new_work}

@@ -1,5 +1,5 @@
 -- A further line may begin with the words of the table, and with no others.
-use Rattle.std.proofs.Common.{◌≡◌, ℕ, suc, ◌+◌, ◌<◌, ◌≤◌, Bool, true, false, not, ◌&&◌, ◌⊎◌, List, [], ◌∷◌, ◌++◌, map, length, cond, eqb, ltb, Option, Some, None, Result, Ok, arith, refl, sym, ap, ◌∙◌, inl, inr, subst, codes, length-append}
+use Rattle.std.proofs.Common.{◌≡◌, ℕ, suc, ◌+◌, ◌<◌, ◌≤◌, Bool, true, false, not, ◌&&◌, List, [], ◌∷◌, ◌++◌, map, length, cond, eqb, ltb, Option, Some, None, Result, Ok, arith, refl, sym, ap, ◌∙◌, inl, inr, subst, codes, length-append}
 use Rattle.std.proofs.lemmas.Bool.Decides.{nat_tests}
 use Rattle.std.proofs.lemmas.List.{length-map}
 use Rattle.std.proofs.lemmas.List.Folds.{list_all-append}
@@ -30,7 +30,6 @@ use Rattle.cmwq_types.specs.declared.scenario.Op.TheVariants as op
 use Rattle.cmwq_grammar.specs.Cutting.{words_of}
 use Rattle.cmwq_grammar.specs.FaultLaw.{Begins}
 use Rattle.cmwq_grammar.specs.LineFields.{◌>>=◌, declared_at, made_last, number_where, number_within}
-use Rattle.cmwq_grammar.specs.Grammar.{Says}
 use Rattle.cmwq_grammar.specs.Instructions.{Operands, Makes, OfWork, OfQueue, OfNumber, cannot_stand, instr_at, instr_named, line_at, line_times, operands_at, operands_of, queue_id, queue_names, then_times, work_id, work_names}
 use Rattle.cmwq_grammar.specs.Meaning.{FaultAt, at_line, stage_after}
 use Rattle.cmwq_grammar.specs.Offers.{GoesOnWith, IsNextAfter, has_named, next_offered, next_words, operation_words, words_of_next}
@@ -50,7 +49,7 @@ use Rattle.cmwq_grammar.proofs.GoodScenario.{Good}
 use Rattle.cmwq_grammar.proofs.LineLemmas.{finish_is, good_fields, has_op, has_op_of, not_standing, op_of_words}
 use Rattle.cmwq_grammar.proofs.ListingLemmas.{name_is_plain, number_is_plain, op_word_fits, operands_fit}
 use Rattle.cmwq_grammar.proofs.NameLists.{GoodNames, name_of_queue, name_of_work, queue_declared, work_declared}
-use Rattle.cmwq_grammar.proofs.OfferLemmas.{Among, Takes, actor_words, among_if, among_on, among_one, body_words, if_among, left_among, more_among, named_at, one_among, or_true, plain_on, plain_two, plain_three, queue_of_work, right_among, takes_as, takes_cpus, takes_flushes, takes_in_queues, takes_in_works, takes_steps, takes_workers}
+use Rattle.cmwq_grammar.proofs.OfferLemmas.{Among, Takes, actor_words, among_if, among_on, among_one, body_words, if_among, left_among, more_among, named_at, one_among, or_true, plain_on, queue_of_work, right_among, takes_as, takes_cpus, takes_flushes, takes_in_queues, takes_in_works, takes_steps, takes_workers}
 use Rattle.cmwq_grammar.proofs.ReadingLemmas.{all_read, judged, judges}
 use Rattle.cmwq_grammar.proofs.Soundness.{names_of_bare}
 

@@ -131,9 +131,13 @@ not_in_body word = if bytes_eq word (codes "body") || bytes_eq word (codes "acto
 abbrev pub made_op : OpWord → Fields → Result Op Why
 made_op word operands = Ok (op_with word operands)
 
--- the operation of this word, if it is one's
+-- the operation of this word
+abbrev pub op_of_word : ScenarioContents → OpWord → List (List ℕ) → Result Op Why
+op_of_word S word rest = op_operands_at S (op_shape_of word) rest >>= made_op word
+
+-- the same, if it is an operation's
 abbrev pub op_named : ScenarioContents → List ℕ → Option OpWord → List (List ℕ) → Result Op Why
-op_named S word (Some named) rest = op_operands_at S (op_shape_of named) rest >>= made_op named
+op_named S word (Some named) rest = op_of_word S named rest
 op_named S word None rest = cannot_stand (not_in_body word) word
 
 unfoldable pub op_at_line : ScenarioContents → List ℕ → List (List ℕ) → Result Op Why
