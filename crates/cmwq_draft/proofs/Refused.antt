@@ -1,5 +1,5 @@
 -- A reason told as it is, and steps that went well.
-use Rattle.std.proofs.Common.{◌≡◌, Bool, true, false, cond, refl, sym, ap, subst}
+use Rattle.std.proofs.Common.{◌≡◌, sym, ap, subst}
 use Rattle.std.specs.Prelude.{Result, Ok, Err, IsErrAnd}
 use Rattle.cmwq_grammar.specs.LineFields.{◌>>=◌}
 use Rattle.cmwq_grammar.specs.declared.why.Why.{Why}
@@ -13,14 +13,3 @@ module _ {A B : Type 0} (view : A → B) where
 -- a step that went well, and what follows it
 pub then_ok : {A B E : Type 0} (r : Result A E) (next : A → Result B E) (found : A) → r ≡ Ok found → (r >>= next) ≡ next found
 then_ok {A = A} {B = B} {E = E} r next found e = ap (λ (given : Result A E). given >>= next) e
-
--- the first test holds
-pub first : {A : Type 0} (b : Bool) (x y : A) → b ≡ true → cond b x y ≡ x
-first true x y holds = refl
-first false x y holds = cc
-
--- the second of two tests holds
-pub second : {A : Type 0} (b c : Bool) (x y z : A) → b ≡ false → c ≡ true → cond b x (cond c y z) ≡ y
-second true c x y z first then = cc
-second false true x y z first then = refl
-second false false x y z first then = cc

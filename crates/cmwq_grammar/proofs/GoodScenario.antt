@@ -7,12 +7,16 @@ use Rattle.std.proofs.lemmas.Option.{get_or_from_slice_get}
 use Rattle.std.specs.List.{AllByRecursion, count_by, list_all, list_any, slice_get}
 use Rattle.std.specs.Str.{bytes_eq}
 use Rattle.cmwq_types.specs.Contents.{ScenarioContents, WorkContents, ActorContents}
-use Rattle.cmwq_types.specs.Faults.{IsValid, actor_fault, body_fault, counts_fault, fault_if, fault_unless, first_along, fits_flags, is_body, is_finish, is_some_finish, line_fault, names_declared, numbers_fault, op_fault, or_else, queue_fault, unknown_work, within, work_fault}
+use Rattle.cmwq_types.specs.Faults.{IsValid, actor_fault, body_fault, counts_fault, fault_if, fault_unless, fields_fault, first_along, fits_flags, is_body, is_finish, is_some_finish, line_fault, names_declared, numbers_fault, op_fault, or_else, queue_fault, unknown_work, within, work_fault}
+use Rattle.cmwq_types.specs.Fields.{work_id}
 use Rattle.cmwq_types.specs.Name.{is_name}
+use Rattle.cmwq_types.specs.Operations.{op_fields_of, op_shape_of, op_word_of}
 use Rattle.cmwq_types.specs.Values.{IsActor, IsOp, IsScenario, IsWorkDecl}
 use Rattle.cmwq_types.specs.declared.check.Fault.{Fault}
 use Rattle.cmwq_types.specs.declared.check.Fault.TheVariants as fault
-use Rattle.cmwq_types.specs.declared.instr.WorkId.{WorkId}
+use Rattle.cmwq_types.specs.declared.fields.Fields.{Fields}
+use Rattle.cmwq_types.specs.declared.fields.Shape.{Shape}
+use Rattle.cmwq_types.specs.declared.fields.Shape.TheVariants as shape
 use Rattle.cmwq_types.specs.declared.limits.TheConstants.{MAX_ACTORS, MAX_CPUS, MAX_FLUSHES, MAX_LINES, MAX_OPS, MAX_QUEUES, MAX_STEPS, MAX_TICKS, MAX_TIMES, MAX_WORKERS, MAX_WORKS}
 use Rattle.cmwq_types.specs.declared.scenario.Line.{Line}
 use Rattle.cmwq_types.specs.declared.scenario.Op.{Op}
@@ -23,7 +27,7 @@ use Rattle.cmwq_grammar.proofs.Basics.{one_if, and_true, at_most, at_most_is, be
 use Rattle.cmwq_grammar.proofs.FieldLemmas.{IsNew, fits_within, within_fits}
 use Rattle.cmwq_grammar.proofs.Fitting.{body_is, queues_are, queues_named, works_named}
 use Rattle.cmwq_grammar.proofs.InstrLemmas.{good_line}
-use Rattle.cmwq_grammar.proofs.LineLemmas.{good_op}
+use Rattle.cmwq_grammar.proofs.LineLemmas.{finish_is, good_fields, good_op, has_op, has_op_of}
 use Rattle.cmwq_grammar.proofs.NameLists.{GoodNames}
 
 -- Tests and faults.
@@ -63,44 +67,35 @@ pub record GoodBody (cpus works : ℕ) (body : List Op) : Type 0 where
   pub others : list_all (λ o. not (is_finish o)) ops ≡ true
   pub few : length ops < MAX_OPS
 
--- a work and ticks
-timed_good : (S : ScenarioContents) (work : WorkId) (ticks : ℕ) → or_else (unknown_work S work) (fault_unless (leb ticks MAX_TICKS) fault.Range) ≡ None
-    → (ltb work.0 (length S.works) && within 0 MAX_TICKS ticks) ≡ true
-timed_good S work ticks e =
-    let both : (unknown_work S work ≡ None) × (fault_unless (leb ticks MAX_TICKS) fault.Range ≡ None) =
-    no_first (unknown_work S work) (fault_unless (leb ticks MAX_TICKS) fault.Range) e in
-    let few : ticks ≤ MAX_TICKS = at_most ticks MAX_TICKS (no_unless (leb ticks MAX_TICKS) fault.Range both.1) in
-    true_and (ltb work.0 (length S.works)) (within 0 MAX_TICKS ticks) (no_unless (ltb work.0 (length S.works)) fault.Unknown both.0) (fits_within 0 MAX_TICKS ticks (omega arith) few)
+-- operands without a fault fit
+fields_good : (S : ScenarioContents) (s : Shape) (f : Fields) → has_op s ≡ true → fields_fault S s f ≡ None → good_fields S.cpus (length S.works) s f ≡ true
+fields_good S shape.Alone f has e = refl
+fields_good S shape.Ticks f has e = no_unless (within 1 MAX_TICKS f.number) fault.Range e
+fields_good S shape.Work f has e = no_unless (ltb f.id (length S.works)) fault.Unknown e
+fields_good S shape.WorkCpu f has e =
+    let both : (unknown_work S (work_id f.id) ≡ None) × (fault_unless (ltb f.cpu S.cpus) fault.Range ≡ None) =
+    no_first (unknown_work S (work_id f.id)) (fault_unless (ltb f.cpu S.cpus) fault.Range) e in
+    true_and (ltb f.id (length S.works)) (ltb f.cpu S.cpus) (no_unless (ltb f.id (length S.works)) fault.Unknown both.0) (no_unless (ltb f.cpu S.cpus) fault.Range both.1)
+fields_good S shape.WorkTicks f has e =
+    let both : (unknown_work S (work_id f.id) ≡ None) × (fault_unless (leb f.number MAX_TICKS) fault.Range ≡ None) =
+    no_first (unknown_work S (work_id f.id)) (fault_unless (leb f.number MAX_TICKS) fault.Range) e in
+    let few : f.number ≤ MAX_TICKS = at_most f.number MAX_TICKS (no_unless (leb f.number MAX_TICKS) fault.Range both.1) in
+    true_and (ltb f.id (length S.works)) (within 0 MAX_TICKS f.number) (no_unless (ltb f.id (length S.works)) fault.Unknown both.0)
+    (fits_within 0 MAX_TICKS f.number (omega arith) few)
+fields_good S _ f has e = cc
 
-timed_valid : (S : ScenarioContents) (work : WorkId) (ticks : ℕ) → (ltb work.0 (length S.works) && within 0 MAX_TICKS ticks) ≡ true
-    → or_else (unknown_work S work) (fault_unless (leb ticks MAX_TICKS) fault.Range) ≡ None
-timed_valid S work ticks e =
-    let both : (ltb work.0 (length S.works) ≡ true) × (within 0 MAX_TICKS ticks ≡ true) = and_true (ltb work.0 (length S.works)) (within 0 MAX_TICKS ticks) e in
-    none_first (unknown_work S work) (fault_unless (leb ticks MAX_TICKS) fault.Range) (unless_none (ltb work.0 (length S.works)) fault.Unknown both.0)
-    (unless_none (leb ticks MAX_TICKS) fault.Range (at_most_is ticks MAX_TICKS (within_fits 0 MAX_TICKS ticks both.1).1))
-
-op_good : (S : ScenarioContents) (o : Op) → op_fault S o ≡ None → good_op S.cpus (length S.works) o ≡ true
-op_good S (op.Burn ticks) e = no_unless (within 1 MAX_TICKS ticks) fault.Range e
-op_good S (op.Sleep ticks) e = no_unless (within 1 MAX_TICKS ticks) fault.Range e
-op_good S (op.Queue work cpu) e =
-    let both : (fault_unless (ltb work.0 (length S.works)) fault.Unknown ≡ None) × (fault_unless (ltb cpu S.cpus) fault.Range ≡ None) =
-    no_first (fault_unless (ltb work.0 (length S.works)) fault.Unknown) (fault_unless (ltb cpu S.cpus) fault.Range) e in
-    true_and (ltb work.0 (length S.works)) (ltb cpu S.cpus) (no_unless (ltb work.0 (length S.works)) fault.Unknown both.0) (no_unless (ltb cpu S.cpus) fault.Range both.1)
-op_good S op.Finish e = refl
-op_good S (op.Delay work ticks) e = timed_good S work ticks e
-op_good S (op.Mod work ticks) e = timed_good S work ticks e
-op_good S (op.Cancel work) e = no_unless (ltb work.0 (length S.works)) fault.Unknown e
-
-op_valid : (S : ScenarioContents) (o : Op) → good_op S.cpus (length S.works) o ≡ true → op_fault S o ≡ None
-op_valid S (op.Burn ticks) e = unless_none (within 1 MAX_TICKS ticks) fault.Range e
-op_valid S (op.Sleep ticks) e = unless_none (within 1 MAX_TICKS ticks) fault.Range e
-op_valid S (op.Queue work cpu) e =
-    let both : (ltb work.0 (length S.works) ≡ true) × (ltb cpu S.cpus ≡ true) = and_true (ltb work.0 (length S.works)) (ltb cpu S.cpus) e in
-    none_first (fault_unless (ltb work.0 (length S.works)) fault.Unknown) (fault_unless (ltb cpu S.cpus) fault.Range) (unless_none (ltb work.0 (length S.works)) fault.Unknown both.0) (unless_none (ltb cpu S.cpus) fault.Range both.1)
-op_valid S op.Finish e = refl
-op_valid S (op.Delay work ticks) e = timed_valid S work ticks e
-op_valid S (op.Mod work ticks) e = timed_valid S work ticks e
-op_valid S (op.Cancel work) e = unless_none (ltb work.0 (length S.works)) fault.Unknown e
+fields_valid : (S : ScenarioContents) (s : Shape) (f : Fields) → good_fields S.cpus (length S.works) s f ≡ true → fields_fault S s f ≡ None
+fields_valid S shape.Ticks f e = unless_none (within 1 MAX_TICKS f.number) fault.Range e
+fields_valid S shape.Work f e = unless_none (ltb f.id (length S.works)) fault.Unknown e
+fields_valid S shape.WorkCpu f e =
+    let both : (ltb f.id (length S.works) ≡ true) × (ltb f.cpu S.cpus ≡ true) = and_true (ltb f.id (length S.works)) (ltb f.cpu S.cpus) e in
+    none_first (unknown_work S (work_id f.id)) (fault_unless (ltb f.cpu S.cpus) fault.Range) (unless_none (ltb f.id (length S.works)) fault.Unknown both.0)
+    (unless_none (ltb f.cpu S.cpus) fault.Range both.1)
+fields_valid S shape.WorkTicks f e =
+    let both : (ltb f.id (length S.works) ≡ true) × (within 0 MAX_TICKS f.number ≡ true) = and_true (ltb f.id (length S.works)) (within 0 MAX_TICKS f.number) e in
+    none_first (unknown_work S (work_id f.id)) (fault_unless (leb f.number MAX_TICKS) fault.Range) (unless_none (ltb f.id (length S.works)) fault.Unknown both.0)
+    (unless_none (leb f.number MAX_TICKS) fault.Range (at_most_is f.number MAX_TICKS (within_fits 0 MAX_TICKS f.number both.1).1))
+fields_valid S _ f e = refl
 
 ops_good : (S : ScenarioContents) (before ops : List Op) → first_along (λ before op. op_fault S op) before ops ≡ None
     → list_all (good_op S.cpus (length S.works)) ops ≡ true
@@ -108,7 +103,8 @@ ops_good S before [] e = refl
 ops_good S before (o ∷ ops) e =
     let both : (op_fault S o ≡ None) × (first_along (λ before op. op_fault S op) (before ++ o ∷ []) ops ≡ None) =
     no_first (op_fault S o) (first_along (λ before op. op_fault S op) (before ++ o ∷ []) ops) e in
-    true_and (good_op S.cpus (length S.works) o) (list_all (good_op S.cpus (length S.works)) ops) (op_good S o both.0) (ops_good S (before ++ o ∷ []) ops both.1)
+    true_and (good_op S.cpus (length S.works) o) (list_all (good_op S.cpus (length S.works)) ops)
+    (fields_good S (op_shape_of (op_word_of o)) (op_fields_of o) (has_op_of (op_word_of o)) both.0) (ops_good S (before ++ o ∷ []) ops both.1)
 
 ops_valid : (S : ScenarioContents) (before ops : List Op) → list_all (good_op S.cpus (length S.works)) ops ≡ true
     → first_along (λ before op. op_fault S op) before ops ≡ None
@@ -116,19 +112,11 @@ ops_valid S before [] e = refl
 ops_valid S before (o ∷ ops) e =
     let both : (good_op S.cpus (length S.works) o ≡ true) × (list_all (good_op S.cpus (length S.works)) ops ≡ true) =
     and_true (good_op S.cpus (length S.works) o) (list_all (good_op S.cpus (length S.works)) ops) e in
-    none_first (op_fault S o) (first_along (λ before op. op_fault S op) (before ++ o ∷ []) ops) (op_valid S o both.0) (ops_valid S (before ++ o ∷ []) ops both.1)
-
-finish_of : (o : Op) → is_finish o ≡ true → o ≡ op.Finish
-finish_of (op.Burn ticks) e = cc
-finish_of (op.Sleep ticks) e = cc
-finish_of (op.Queue work cpu) e = cc
-finish_of op.Finish e = refl
-finish_of (op.Delay work ticks) e = cc
-finish_of (op.Mod work ticks) e = cc
-finish_of (op.Cancel work) e = cc
+    none_first (op_fault S o) (first_along (λ before op. op_fault S op) (before ++ o ∷ []) ops)
+    (fields_valid S (op_shape_of (op_word_of o)) (op_fields_of o) both.0) (ops_valid S (before ++ o ∷ []) ops both.1)
 
 some_finish : (last : Option Op) → is_some_finish last ≡ true → last ≡ Some op.Finish
-some_finish (Some o) e = ap Some (finish_of o e)
+some_finish (Some o) e = ap Some (finish_is o e)
 some_finish None e = cc
 
 last_finish : (body : List Op) → is_some_finish (slice_get body (length body - 1)) ≡ true → body ≡ take (length body - 1) body ++ op.Finish ∷ []

@@ -12,14 +12,19 @@ use Rattle.std.specs.List.{AllByRecursion, flat_map, list_all}
 use Rattle.std.specs.Str.{all_ascii_digits}
 use Rattle.cmwq_types.specs.Contents.{ScenarioContents, WorkContents, ActorContents}
 use Rattle.cmwq_types.specs.Faults.{IsValid, fits_flags, names_declared, within}
-use Rattle.cmwq_types.specs.Listing.{WrittenLine, Words, Flagged, Repeated, actor_line, actor_lines, body_lines, flag_words, instr_words, listing, numbered, op_line, queue_line, times_words, word_if, work_line, written, written_text}
+use Rattle.cmwq_types.specs.Listing.{WrittenLine, Words, Flagged, Repeated, actor_line, actor_lines, body_lines, flag_words, instr_words, listing, numbered, op_line, operand_words, queue_line, times_words, word_if, work_line, written, written_text}
 use Rattle.cmwq_types.specs.Name.{is_lowercase, is_name, is_name_byte}
+use Rattle.cmwq_types.specs.Operations.{op_fields_of, op_shape_of, op_spelling, op_word_of}
 use Rattle.cmwq_types.specs.Scenario.{queue_at, work_at}
 use Rattle.cmwq_types.specs.Values.{IsActor, IsInstr, IsLine, IsScenario}
+use Rattle.cmwq_types.specs.declared.fields.Fields.{Fields}
+use Rattle.cmwq_types.specs.declared.fields.Shape.{Shape}
+use Rattle.cmwq_types.specs.declared.fields.Shape.TheVariants as shape
 use Rattle.cmwq_types.specs.declared.instr.Instr.{Instr}
 use Rattle.cmwq_types.specs.declared.instr.Instr.TheVariants as instr
-use Rattle.cmwq_types.specs.declared.instr.WorkId.{WorkId}
 use Rattle.cmwq_types.specs.declared.limits.TheConstants.{MAX_ACTORS, MAX_CPUS, MAX_FLUSHES, MAX_LINES, MAX_MAX_ACTIVE, MAX_OPS, MAX_QUEUES, MAX_STEPS, MAX_TEXT, MAX_TICKS, MAX_TIMES, MAX_WORKERS, MAX_WORKS}
+use Rattle.cmwq_types.specs.declared.operation.OpWord.{OpWord}
+use Rattle.cmwq_types.specs.declared.operation.OpWord.TheVariants as words
 use Rattle.cmwq_types.specs.declared.scenario.Flags.{Flags}
 use Rattle.cmwq_types.specs.declared.scenario.Line.{Line}
 use Rattle.cmwq_types.specs.declared.scenario.Op.{Op}
@@ -36,7 +41,7 @@ use Rattle.cmwq_grammar.proofs.FieldLemmas.{numerals, within_fits}
 use Rattle.cmwq_grammar.proofs.FlagLemmas.{flag_words_are, words_set}
 use Rattle.cmwq_grammar.proofs.GoodScenario.{Good, GoodBody, GoodBodyOf, good_actor, good_from_valid, good_lines, on_queue_of}
 use Rattle.cmwq_grammar.proofs.InstrLemmas.{good_line}
-use Rattle.cmwq_grammar.proofs.LineLemmas.{good_op}
+use Rattle.cmwq_grammar.proofs.LineLemmas.{good_fields, good_op}
 use Rattle.cmwq_grammar.proofs.NameLists.{GoodNames, name_of_queue, name_of_work}
 use Rattle.cmwq_grammar.proofs.Utf8Lemmas.{AllUtf8, text_utf8}
 
@@ -71,8 +76,8 @@ listing_is (l ∷ lines) =
 
 -- Words that are plain, and how long they are.
 
-record WordFits (k : ℕ) (word : List ℕ) : Type 0 where
-  plain : plain_word word ≡ true
+pub record WordFits (k : ℕ) (word : List ℕ) : Type 0 where
+  pub plain : plain_word word ≡ true
   short : length word ≤ k
 
 literal : (k : ℕ) (word : List ℕ) → plain_word word ≡ true → length word ≤ k → WordFits k word
@@ -83,8 +88,8 @@ total : List (List ℕ) → ℕ
 total [] = 0
 total (word ∷ words) = length word + 1 + total words
 
-record WordsFit (k : ℕ) (words : List (List ℕ)) : Type 0 where
-  plain : list_all plain_word words ≡ true
+pub record WordsFit (k : ℕ) (words : List (List ℕ)) : Type 0 where
+  pub plain : list_all plain_word words ≡ true
   short : total words ≤ k
 
 no_words : WordsFit 0 []
@@ -280,36 +285,42 @@ works_fit S before (w ∷ works) queues names on =
 
 -- Bodies.
 
-timed_fits : (S : ScenarioContents) (work : WorkId) (ticks : ℕ) → GoodNames [] (work_names S) → (ltb work.0 (length S.works) && within 0 MAX_TICKS ticks) ≡ true
-    → WordsFit 24 ((work_at S work.0).name ∷ decimal ticks ∷ [])
-timed_fits S work ticks names good =
-    let tests : (ltb work.0 (length S.works) ≡ true) × (within 0 MAX_TICKS ticks ≡ true) = and_true (ltb work.0 (length S.works)) (within 0 MAX_TICKS ticks) good in
-    let bounds : (0 ≤ ticks) × (ticks ≤ MAX_TICKS) = within_fits 0 MAX_TICKS ticks tests.1 in
-    words_within 24 (word_on (work_name S work.0 names tests.0) (word_on (number_fits 7 ticks (omega arith) (omega arith) (omega arith)) no_words)) (omega arith)
+-- how many bytes the operands of a shape take at most
+abbrev operand_room : Shape → ℕ
+operand_room shape.WorkTicks = 24
+operand_room other = 19
+
+few_room : (s : Shape) → operand_room s ≤ 24
+few_room shape.WorkTicks = omega arith
+few_room _ = omega arith
+
+pub operands_fit : (S : ScenarioContents) (s : Shape) (f : Fields) → GoodNames [] (work_names S) → S.cpus ≤ 16 → good_fields S.cpus (length S.works) s f ≡ true
+    → WordsFit (operand_room s) (operand_words S s f)
+operands_fit S shape.Alone f names few good = words_within 19 no_words (omega arith)
+operands_fit S shape.Ticks f names few good =
+    let bounds : (1 ≤ f.number) × (f.number ≤ MAX_TICKS) = within_fits 1 MAX_TICKS f.number good in
+    words_within 19 (word_on (number_fits 7 f.number (omega arith) (omega arith) (omega arith)) no_words) (omega arith)
+operands_fit S shape.Work f names few good = words_within 19 (word_on (work_name S f.id names good) no_words) (omega arith)
+operands_fit S shape.WorkCpu f names few good =
+    let tests : (ltb f.id (length S.works) ≡ true) × (ltb f.cpu S.cpus ≡ true) = and_true (ltb f.id (length S.works)) (ltb f.cpu S.cpus) good in
+    let small : f.cpu < S.cpus = below f.cpu S.cpus tests.1 in
+    words_within 19 (word_on (work_name S f.id names tests.0) (word_on (number_fits 2 f.cpu (omega arith) (omega arith) (omega arith)) no_words)) (omega arith)
+operands_fit S shape.WorkTicks f names few good =
+    let tests : (ltb f.id (length S.works) ≡ true) × (within 0 MAX_TICKS f.number ≡ true) = and_true (ltb f.id (length S.works)) (within 0 MAX_TICKS f.number) good in
+    let bounds : (0 ≤ f.number) × (f.number ≤ MAX_TICKS) = within_fits 0 MAX_TICKS f.number tests.1 in
+    words_within 24 (word_on (work_name S f.id names tests.0) (word_on (number_fits 7 f.number (omega arith) (omega arith) (omega arith)) no_words)) (omega arith)
+operands_fit S _ f names few good = cc
+
+-- the word of an operation leaves room for its operands
+pub op_word_fits : (m : OpWord) → WordFits (29 - operand_room (op_shape_of m)) (op_spelling m)
+op_word_fits words.Burn = literal _ _ refl (omega arith)
+op_word_fits _ = literal _ _ refl (omega arith)
 
 op_fits : (S : ScenarioContents) (o : Op) → GoodNames [] (work_names S) → S.cpus ≤ 16 → good_op S.cpus (length S.works) o ≡ true → LineFitsIn 30 (op_line S o)
-op_fits S (op.Burn ticks) names few good =
-    let bounds : (1 ≤ ticks) × (ticks ≤ MAX_TICKS) = within_fits 1 MAX_TICKS ticks good in
-    line_fits 30 (op_line S (op.Burn ticks)) refl (word_on (literal 4 (codes "burn") refl (omega arith))
-    (word_on (number_fits 7 ticks (omega arith) (omega arith) (omega arith)) no_words)) (omega arith)
-op_fits S (op.Sleep ticks) names few good =
-    let bounds : (1 ≤ ticks) × (ticks ≤ MAX_TICKS) = within_fits 1 MAX_TICKS ticks good in
-    line_fits 30 (op_line S (op.Sleep ticks)) refl (word_on (literal 5 (codes "sleep") refl (omega arith))
-    (word_on (number_fits 7 ticks (omega arith) (omega arith) (omega arith)) no_words)) (omega arith)
-op_fits S (op.Queue work cpu) names few good =
-    let tests : (ltb work.0 (length S.works) ≡ true) × (ltb cpu S.cpus ≡ true) = and_true (ltb work.0 (length S.works)) (ltb cpu S.cpus) good in
-    let small : cpu < S.cpus = below cpu S.cpus tests.1 in
-    line_fits 30 (op_line S (op.Queue work cpu)) refl (word_on (literal 5 (codes "queue") refl (omega arith))
-    (word_on (work_name S work.0 names tests.0)
-    (word_on (number_fits 2 cpu (omega arith) (omega arith) (omega arith)) no_words))) (omega arith)
-op_fits S op.Finish names few good =
-    line_fits 30 (op_line S op.Finish) refl (word_on (literal 6 (codes "finish") refl (omega arith)) no_words) (omega arith)
-op_fits S (op.Delay work ticks) names few good =
-    line_fits 30 (op_line S (op.Delay work ticks)) refl (word_on (literal 5 (codes "delay") refl (omega arith)) (timed_fits S work ticks names good)) (omega arith)
-op_fits S (op.Mod work ticks) names few good =
-    line_fits 30 (op_line S (op.Mod work ticks)) refl (word_on (literal 3 (codes "mod") refl (omega arith)) (timed_fits S work ticks names good)) (omega arith)
-op_fits S (op.Cancel work) names few good =
-    line_fits 30 (op_line S (op.Cancel work)) refl (word_on (literal 6 (codes "cancel") refl (omega arith)) (word_on (work_name S work.0 names good) no_words)) (omega arith)
+op_fits S o names few good =
+    let s : Shape = op_shape_of (op_word_of o) in
+    let room : operand_room s ≤ 24 = few_room s in
+    line_fits 30 (op_line S o) refl (word_on (op_word_fits (op_word_of o)) (operands_fit S s (op_fields_of o) names few good)) (omega (arith, room))
 
 ops_fit : (S : ScenarioContents) (ops : List Op) → GoodNames [] (work_names S) → S.cpus ≤ 16 → list_all (good_op S.cpus (length S.works)) ops ≡ true
     → LinesFitIn (length ops * 30) (map (op_line S) ops)

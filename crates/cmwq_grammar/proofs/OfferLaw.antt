@@ -1,5 +1,5 @@
 -- A further line may begin with the words of the table, and with no others.
-use Rattle.std.proofs.Common.{◌≡◌, ℕ, suc, ◌+◌, ◌<◌, ◌≤◌, Bool, true, false, not, ◌&&◌, ◌⊎◌, List, [], ◌∷◌, ◌++◌, map, length, cond, eqb, ltb, Option, Some, None, Result, Ok, arith, refl, sym, ap, ◌∙◌, inl, inr, subst, codes, length-append}
+use Rattle.std.proofs.Common.{◌≡◌, ℕ, suc, ◌+◌, ◌<◌, ◌≤◌, Bool, true, false, not, ◌&&◌, List, [], ◌∷◌, ◌++◌, map, length, cond, eqb, ltb, Option, Some, None, Result, Ok, arith, refl, sym, ap, ◌∙◌, inl, inr, subst, codes, length-append}
 use Rattle.std.proofs.lemmas.Bool.Decides.{nat_tests}
 use Rattle.std.proofs.lemmas.List.{length-map}
 use Rattle.std.proofs.lemmas.List.Folds.{list_all-append}
@@ -9,21 +9,27 @@ use Rattle.std.specs.Prelude.{◌↔◌, IsTrue}
 use Rattle.std.specs.Str.{bytes_eq}
 use Rattle.cmwq_types.specs.Contents.{ScenarioContents, WorkContents}
 use Rattle.cmwq_types.specs.Faults.{is_finish, within}
-use Rattle.cmwq_types.specs.Listing.{op_line}
+use Rattle.cmwq_types.specs.Fields.{fields}
+use Rattle.cmwq_types.specs.Listing.{operand_words}
 use Rattle.cmwq_types.specs.Mnemonics.{first_spelled, mnemonic_of, mnemonics, spelling}
 use Rattle.cmwq_types.specs.Name.{is_name}
+use Rattle.cmwq_types.specs.Operations.{op_fields_of, op_shape_of, op_spelling, op_with, op_word_of, op_words}
 use Rattle.cmwq_types.specs.Scenario.{queue_at, work_at}
+use Rattle.cmwq_types.specs.declared.fields.Fields.{Fields}
+use Rattle.cmwq_types.specs.declared.fields.Shape.{Shape}
+use Rattle.cmwq_types.specs.declared.fields.Shape.TheVariants as shape
 use Rattle.cmwq_types.specs.declared.instr.Instr.{Instr}
 use Rattle.cmwq_types.specs.declared.limits.TheConstants.{MAX_ACTORS, MAX_CPUS, MAX_FLUSHES, MAX_LINES, MAX_OPS, MAX_QUEUES, MAX_STEPS, MAX_WORKERS, MAX_WORKS}
 use Rattle.cmwq_types.specs.declared.mnemonic.Mnemonic.{Mnemonic}
 use Rattle.cmwq_types.specs.declared.mnemonic.Mnemonic.TheVariants as mnemonic
+use Rattle.cmwq_types.specs.declared.operation.OpWord.{OpWord}
+use Rattle.cmwq_types.specs.declared.operation.OpWord.TheVariants as words
 use Rattle.cmwq_types.specs.declared.scenario.Line.{Line}
 use Rattle.cmwq_types.specs.declared.scenario.Op.{Op}
 use Rattle.cmwq_types.specs.declared.scenario.Op.TheVariants as op
 use Rattle.cmwq_grammar.specs.Cutting.{words_of}
 use Rattle.cmwq_grammar.specs.FaultLaw.{Begins}
 use Rattle.cmwq_grammar.specs.LineFields.{◌>>=◌, declared_at, made_last, number_where, number_within}
-use Rattle.cmwq_grammar.specs.Grammar.{Says}
 use Rattle.cmwq_grammar.specs.Instructions.{Operands, Makes, OfWork, OfQueue, OfNumber, cannot_stand, instr_at, instr_named, line_at, line_times, operands_at, operands_of, queue_id, queue_names, then_times, work_id, work_names}
 use Rattle.cmwq_grammar.specs.Meaning.{FaultAt, at_line, stage_after}
 use Rattle.cmwq_grammar.specs.Offers.{GoesOnWith, IsNextAfter, has_named, next_offered, next_words, operation_words, words_of_next}
@@ -40,10 +46,10 @@ use Rattle.cmwq_grammar.proofs.Events.{ActorOpened, LineAdded, OpAdded, QueueAdd
 use Rattle.cmwq_grammar.proofs.FaultLemmas.{begins_read, lines_no_feeds, one_more, read_begins}
 use Rattle.cmwq_grammar.proofs.FieldLemmas.{declared_read, fits_within, where_again, within_fits}
 use Rattle.cmwq_grammar.proofs.GoodScenario.{Good}
-use Rattle.cmwq_grammar.proofs.LineLemmas.{good_op, not_standing, op_again}
-use Rattle.cmwq_grammar.proofs.ListingLemmas.{name_is_plain, number_is_plain}
+use Rattle.cmwq_grammar.proofs.LineLemmas.{finish_is, good_fields, has_op, has_op_of, not_standing, op_of_words}
+use Rattle.cmwq_grammar.proofs.ListingLemmas.{name_is_plain, number_is_plain, op_word_fits, operands_fit}
 use Rattle.cmwq_grammar.proofs.NameLists.{GoodNames, name_of_queue, name_of_work, queue_declared, work_declared}
-use Rattle.cmwq_grammar.proofs.OfferLemmas.{Among, Takes, actor_words, among_if, among_on, among_one, body_words, if_among, left_among, more_among, named_at, one_among, or_true, plain_on, plain_two, plain_three, queue_of_work, right_among, takes_as, takes_cpus, takes_flushes, takes_in_queues, takes_in_works, takes_steps, takes_workers}
+use Rattle.cmwq_grammar.proofs.OfferLemmas.{Among, Takes, actor_words, among_if, among_on, among_one, body_words, if_among, left_among, more_among, named_at, one_among, or_true, plain_on, queue_of_work, right_among, takes_as, takes_cpus, takes_flushes, takes_in_queues, takes_in_works, takes_steps, takes_workers}
 use Rattle.cmwq_grammar.proofs.ReadingLemmas.{all_read, judged, judges}
 use Rattle.cmwq_grammar.proofs.Soundness.{names_of_bare}
 
@@ -97,6 +103,22 @@ takes_in_bodies D done word sound e = elim (either (all_have_bodies D done)) [
 
 -- Operations.
 
+-- a word among those that are spelled by what passes is the word of one that passes
+among_passing : {A : Type 0} (spelled : A → List ℕ) (p : A → Bool) (ms : List A) (word : List ℕ) → Among word (map spelled (filter p ms))
+    → (m : A) × (word ≡ spelled m) × (p m ≡ true)
+among_passing spelled p [] word e = cc
+among_passing {A} spelled p (m ∷ ms) word e = at (p m) refl (among_passing spelled p ms word) e
+  where
+    Passing : Type 0
+    Passing = (x : A) × (word ≡ spelled x) × (p x ≡ true)
+
+    at : (b : Bool) → p m ≡ b → (Among word (map spelled (filter p ms)) → Passing) → Among word (map spelled (cond b (m ∷ filter p ms) (filter p ms))) → Passing
+    at true passes others h = elim (or_true (bytes_eq word (spelled m)) (list_any (bytes_eq word) (map spelled (filter p ms))) h) [
+      | inl here ↦ (m, same_word word (spelled m) here, passes)
+      | inr later ↦ others later
+    ]
+    at false fails others h = others h
+
 cpus_of : (n : ℕ) → within 1 MAX_CPUS n ≡ true → (0 < n) × (n ≤ 16)
 cpus_of n e = (let fits = within_fits 1 MAX_CPUS n e in (omega (arith, fits.0), omega (arith, fits.1)))
 
@@ -105,12 +127,12 @@ record OpWords (D : ScenarioContents) (first : List ℕ) (o : Op) : Type 0 where
   read : op_at_line D first rest ≡ Ok o
   plain : plain_words (first ∷ rest) ≡ true
 
-op_words : (D : ScenarioContents) (o : Op) (first : List ℕ) (rest : List (List ℕ)) → GoodNames [] (work_names D) → D.cpus ≤ 16 → good_op D.cpus (length D.works) o ≡ true
-    → (word : List ℕ) × (after : List (List ℕ)) × (first ∷ rest ≡ word ∷ after) × (op_at_line D word after ≡ Ok o) → plain_words (first ∷ rest) ≡ true → OpWords D first o
-op_words D o first rest names few good again plain = record {
-  rest = again.1;
-  read = ap (λ (w : List ℕ). op_at_line D w again.1) (same_head first again.0 rest again.1 again.2) ∙ again.3;
-  plain = ap (λ (w : List ℕ). plain_words (w ∷ again.1)) (same_head first again.0 rest again.1 again.2) ∙ ap plain_words (sym again.2) ∙ plain;
+op_said : (D : ScenarioContents) (m : OpWord) (f : Fields) → GoodNames [] (work_names D) → D.cpus ≤ 16 → good_fields D.cpus (length D.works) (op_shape_of m) f ≡ true
+    → OpWords D (op_spelling m) (op_with m f)
+op_said D m f names few good = record {
+  rest = operand_words D (op_shape_of m) f;
+  read = op_of_words D m f names few good;
+  plain = plain_on (op_spelling m) (operand_words D (op_shape_of m) f) (op_word_fits m).plain (operands_fit D (op_shape_of m) f names few good).plain;
 }
 
 takes_op : (D : ScenarioContents) (done : List WorkContents) (ops : List Op) (first : List ℕ) (o : Op) → OpWords D first o → is_finish o ≡ false → length ops + 1 < MAX_OPS
@@ -130,72 +152,31 @@ record OpGiven (D : ScenarioContents) (word : List ℕ) : Type 0 where
   words : OpWords D word last
   other : is_finish last ≡ false
 
-numbered_given : (D : ScenarioContents) (o : Op) (first : List ℕ) → GoodNames [] (work_names D) → D.cpus ≤ 16 → good_op D.cpus (length D.works) o ≡ true
-    → Says (op_line D o) (first ∷ decimal 1 ∷ []) → is_finish o ≡ false → plain_word first ≡ true → OpGiven D first
-numbered_given D o first names few good says other plain = record {
-  last = o;
-  words =
-      op_words D o first (decimal 1 ∷ []) names few good (op_again D o (first ∷ decimal 1 ∷ []) names few good says)
-      (plain_two first (decimal 1) plain (number_is_plain 1 (omega arith)));
-  other = other;
-}
+-- the first work and the first CPU fit, and so does one tick
+first_good : (cpus works : ℕ) (s : Shape) → has_op s ≡ true → 0 < cpus → 0 < works → good_fields cpus works s (fields 0 0 1) ≡ true
+first_good cpus works shape.Alone has c w = refl
+first_good cpus works shape.Ticks has c w = refl
+first_good cpus works shape.Work has c w = below_is 0 works w
+first_good cpus works shape.WorkCpu has c w = true_and (ltb 0 works) (ltb 0 cpus) (below_is 0 works w) (below_is 0 cpus c)
+first_good cpus works shape.WorkTicks has c w = true_and (ltb 0 works) true (below_is 0 works w) refl
+first_good cpus works _ has c w = cc
 
-first_is_plain : (D : ScenarioContents) → GoodNames [] (work_names D) → 0 < length D.works → plain_word (work_at D 0).name ≡ true
-first_is_plain D names some =
-    let long : length (work_names D) ≡ length D.works = length-map D.works (λ (w : WorkContents). w.name) in
-    name_is_plain (work_at D 0).name (ap is_name (sym (name_of_work D 0)) ∙ named_at [] (work_names D) 0 names (omega arith))
-
--- with the first work, and a number
-placed_given : (D : ScenarioContents) (o : Op) (first : List ℕ) → GoodNames [] (work_names D) → D.cpus ≤ 16 → 0 < length D.works → good_op D.cpus (length D.works) o ≡ true
-    → Says (op_line D o) (first ∷ (work_at D 0).name ∷ decimal 0 ∷ []) → is_finish o ≡ false → plain_word first ≡ true → OpGiven D first
-placed_given D o first names few some good says other plain =
-    let name : List ℕ = (work_at D 0).name in
-    record {
-      last = o;
-      words =
-          op_words D o first (name ∷ decimal 0 ∷ []) names few good (op_again D o (first ∷ name ∷ decimal 0 ∷ []) names few good says)
-          (plain_three first name (decimal 0) plain (first_is_plain D names some) (number_is_plain 0 (omega arith)));
-      other = other;
-    }
-
-cancel_given : (D : ScenarioContents) → GoodNames [] (work_names D) → D.cpus ≤ 16 → 0 < length D.works → OpGiven D (codes "cancel")
-cancel_given D names few some =
-    let name : List ℕ = (work_at D 0).name in
-    let o : Op = op.Cancel (work_id 0) in
-    let good : good_op D.cpus (length D.works) o ≡ true = below_is 0 (length D.works) some in
-    record {
-      last = o;
-      words =
-          op_words D o (codes "cancel") (name ∷ []) names few good (op_again D o (codes "cancel" ∷ name ∷ []) names few good refl)
-          (plain_two (codes "cancel") name refl (first_is_plain D names some));
-      other = refl;
-    }
-
-given_as : (D : ScenarioContents) (word w : List ℕ) → bytes_eq word w ≡ true → OpGiven D w → OpGiven D word
-given_as D word w e given = subst (λ (v : List ℕ). OpGiven D v) (sym (same_word word w e)) given
+-- a word of `operation_words` is an operation's that isn't `finish`
+ends : OpWord → Bool
+ends words.Finish = true
+ends other = false
 
 op_given : (D : ScenarioContents) (word : List ℕ) → GoodNames [] (work_names D) → (0 < D.cpus) × (D.cpus ≤ 16) → 0 < length D.works → Among word operation_words → OpGiven D word
+unfolding ends
 op_given D word names cpus some e =
-    let work : ltb 0 (length D.works) ≡ true = below_is 0 (length D.works) some in
-    elim (or_true (bytes_eq word (codes "burn")) _ e) [
-      | inl is ↦ given_as D word (codes "burn") is (numbered_given D (op.Burn 1) (codes "burn") names cpus.1 refl refl refl refl)
-      | inr no_burn ↦ elim (or_true (bytes_eq word (codes "sleep")) _ no_burn) [
-        | inl is ↦ given_as D word (codes "sleep") is (numbered_given D (op.Sleep 1) (codes "sleep") names cpus.1 refl refl refl refl)
-        | inr no_sleep ↦ elim (or_true (bytes_eq word (codes "queue")) _ no_sleep) [
-          | inl is ↦ given_as D word (codes "queue") is
-              (placed_given D (op.Queue (work_id 0) 0) (codes "queue") names cpus.1 some (true_and (ltb 0 (length D.works)) (ltb 0 D.cpus) work (below_is 0 D.cpus cpus.0)) refl refl refl)
-          | inr no_queue ↦ elim (or_true (bytes_eq word (codes "delay")) _ no_queue) [
-            | inl is ↦ given_as D word (codes "delay") is
-                (placed_given D (op.Delay (work_id 0) 0) (codes "delay") names cpus.1 some (true_and (ltb 0 (length D.works)) true work refl) refl refl refl)
-            | inr no_delay ↦ elim (or_true (bytes_eq word (codes "mod")) _ no_delay) [
-              | inl is ↦ given_as D word (codes "mod") is
-                  (placed_given D (op.Mod (work_id 0) 0) (codes "mod") names cpus.1 some (true_and (ltb 0 (length D.works)) true work refl) refl refl refl)
-              | inr is ↦ subst (λ (v : List ℕ). OpGiven D v) (sym (among_one word (codes "cancel") is)) (cancel_given D names cpus.1 some)
-            ]
-          ]
-        ]
-      ]
-    ]
+    let found : (m : OpWord) × (word ≡ op_spelling m) × (not (ends m) ≡ true) = among_passing op_spelling (λ (m : OpWord). not (ends m)) op_words word e in
+    let m : OpWord = found.0 in
+    let good : good_fields D.cpus (length D.works) (op_shape_of m) (fields 0 0 1) ≡ true = first_good D.cpus (length D.works) (op_shape_of m) (has_op_of m) cpus.0 some in
+    subst (OpGiven D) (sym found.1) (record { last = op_with m (fields 0 0 1); words = op_said D m (fields 0 0 1) names cpus.1 good; other = goes_on m found.2 })
+  where
+    goes_on : (m : OpWord) → not (ends m) ≡ true → is_finish (op_with m (fields 0 0 1)) ≡ false
+    goes_on words.Finish h = cc
+    goes_on _ h = refl
 
 takes_in_body : (D : ScenarioContents) (done : List WorkContents) (ops : List Op) (word : List ℕ) → SoundBody D done ops → Among word (next_words (Body D done ops)) → Takes (Body D done ops) word
 takes_in_body D done ops word sound e =
@@ -210,7 +191,7 @@ takes_in_body D done ops word sound e =
           let given : OpGiven D word = op_given D word names cpus some both.1 in
           takes_op D done ops word given.last given.words given.other (below (length ops + 1) MAX_OPS both.0))
       | inr it ↦ takes_as (Body D done ops) word (codes "finish") (among_one word (codes "finish") it)
-          (takes_finish D done ops (op_words D op.Finish (codes "finish") [] names cpus.1 refl (op_again D op.Finish (codes "finish" ∷ []) names cpus.1 refl refl) refl))
+          (takes_finish D done ops (op_said D words.Finish (fields 0 0 0) names cpus.1 refl))
     ]
 
 -- Instructions.
@@ -298,18 +279,6 @@ spelled_plain : (m : Mnemonic) → plain_word (spelling m) ≡ true
 spelled_plain mnemonic.Queue = refl
 spelled_plain _ = refl
 
--- a word among those of the instructions that pass is one's that passes
-among_passing : (p : Mnemonic → Bool) (ms : List Mnemonic) (word : List ℕ) → Among word (map spelling (filter p ms)) → (m : Mnemonic) × (word ≡ spelling m) × (p m ≡ true)
-among_passing p [] word e = cc
-among_passing p (m ∷ ms) word e = at (p m) refl (among_passing p ms word) e
-  where
-    at : (b : Bool) → p m ≡ b → (Among word (map spelling (filter p ms)) → (x : Mnemonic) × (word ≡ spelling x) × (p x ≡ true)) → Among word (map spelling (cond b (m ∷ filter p ms) (filter p ms))) → (x : Mnemonic) × (word ≡ spelling x) × (p x ≡ true)
-    at true passes others h = elim (or_true (bytes_eq word (spelling m)) (list_any (bytes_eq word) (map spelling (filter p ms))) h) [
-      | inl here ↦ (m, same_word word (spelling m) here, passes)
-      | inr later ↦ others later
-    ]
-    at false fails others h = others h
-
 passing_among : (p : Mnemonic → Bool) (ms : List Mnemonic) (word : List ℕ) (m : Mnemonic) → first_spelled ms word ≡ Some m → p m ≡ true → Among word (map spelling (filter p ms))
 passing_among p [] word m e passes = cc
 passing_among p (x ∷ ms) word m e passes =
@@ -352,7 +321,7 @@ takes_in_actor D name given word good e =
     let stage : Stage = Actor D name given in
     elim (among_on word (cond (ltb (length given) MAX_LINES) (map spelling (filter p mnemonics)) []) (cond (ltb (length D.actors + 1) MAX_ACTORS) (codes "actor" ∷ []) []) e) [
       | inl it ↦ (let both = among_if word (ltb (length given) MAX_LINES) (map spelling (filter p mnemonics)) it in
-          let m = among_passing p mnemonics word both.1 in
+          let m = among_passing spelling p mnemonics word both.1 in
           takes_as stage word (spelling m.0) m.1
           (takes_line D name given m.0 (operands_given D (operands_of m.0) good.work_names good.queue_names m.2 (table_named_first m.0)) (below (length given) MAX_LINES both.0)))
       | inr it ↦ (let both = among_if word (ltb (length D.actors + 1) MAX_ACTORS) (codes "actor" ∷ []) it in
@@ -461,32 +430,20 @@ offered_in_bodies D done word rest after e =
 
 offered_in_body : (D : ScenarioContents) (done : List WorkContents) (ops : List Op) (word : List ℕ) (rest : List (List ℕ)) (after : Stage) → OpAdded D done ops word rest after
     → Among word (next_words (Body D done ops))
-offered_in_body D done ops word rest after added = by_op added.last (added.read).0 left
+offered_in_body D done ops word rest after added =
+    let is : word ≡ op_spelling (op_word_of added.last) =
+    same_head word (op_spelling (op_word_of added.last)) rest (operand_words D (op_shape_of (op_word_of added.last)) (op_fields_of added.last)) (added.read).0 in
+    let finish : List (List ℕ) = codes "finish" ∷ [] in
+    elim added.stage [
+      | inl it ↦ right_among word (cond (ltb (length ops + 1) MAX_OPS) operation_words []) finish
+          (one_among word (codes "finish") [] (word_is word (codes "finish") (is ∙ ap (λ (o : Op). op_spelling (op_word_of o)) (finish_is added.last it.0))))
+      | inr it ↦ ap (λ (b : Bool). list_any (bytes_eq word) (cond b operation_words [] ++ finish)) (below_is (length ops + 1) MAX_OPS it.1)
+          ∙ subst (λ (w : List ℕ). Among w (operation_words ++ finish)) (sym is) (each_among (op_word_of added.last))
+    ]
   where
-    left : (is_finish added.last ≡ true) ⊎ (ltb (length ops + 1) MAX_OPS ≡ true)
-    left = elim added.stage [ inl it ↦ inl it.0 | inr it ↦ inr (below_is (length ops + 1) MAX_OPS it.1) ]
-
-    within_room : (o : Op) (first : List ℕ) → is_finish o ≡ false → Among first operation_words → word ≡ first → (is_finish o ≡ true) ⊎ (ltb (length ops + 1) MAX_OPS ≡ true)
-        → Among word (next_words (Body D done ops))
-    within_room o first other here is (inl ends) = (let clash = sym other ∙ ends in cc)
-    within_room o first other here is (inr fits) =
-        left_among word (cond (ltb (length ops + 1) MAX_OPS) operation_words []) (codes "finish" ∷ [])
-        (if_among word (ltb (length ops + 1) MAX_OPS) operation_words fits (subst (λ (w : List ℕ). Among w operation_words) (sym is) here))
-
-    by_op : (o : Op) → Says (op_line D o) (word ∷ rest) → (is_finish o ≡ true) ⊎ (ltb (length ops + 1) MAX_OPS ≡ true) → Among word (next_words (Body D done ops))
-    by_op (op.Burn ticks) says fits = within_room (op.Burn ticks) (codes "burn") refl refl (same_head word (codes "burn") rest (decimal ticks ∷ []) says) fits
-    by_op (op.Sleep ticks) says fits = within_room (op.Sleep ticks) (codes "sleep") refl refl (same_head word (codes "sleep") rest (decimal ticks ∷ []) says) fits
-    by_op (op.Queue work cpu) says fits =
-        within_room (op.Queue work cpu) (codes "queue") refl refl (same_head word (codes "queue") rest ((work_at D work.0).name ∷ decimal cpu ∷ []) says) fits
-    by_op op.Finish says fits =
-        right_among word (cond (ltb (length ops + 1) MAX_OPS) operation_words []) (codes "finish" ∷ [])
-        (one_among word (codes "finish") [] (word_is word (codes "finish") (same_head word (codes "finish") rest [] says)))
-    by_op (op.Delay work ticks) says fits =
-        within_room (op.Delay work ticks) (codes "delay") refl refl (same_head word (codes "delay") rest ((work_at D work.0).name ∷ decimal ticks ∷ []) says) fits
-    by_op (op.Mod work ticks) says fits =
-        within_room (op.Mod work ticks) (codes "mod") refl refl (same_head word (codes "mod") rest ((work_at D work.0).name ∷ decimal ticks ∷ []) says) fits
-    by_op (op.Cancel work) says fits =
-        within_room (op.Cancel work) (codes "cancel") refl refl (same_head word (codes "cancel") rest ((work_at D work.0).name ∷ []) says) fits
+    each_among : (m : OpWord) → Among (op_spelling m) (operation_words ++ codes "finish" ∷ [])
+    each_among words.Burn = refl
+    each_among _ = refl
 
 body_offered : (D : ScenarioContents) (done : List WorkContents) (ops : List Op) (word : List ℕ) (rest : List (List ℕ)) (after : Stage) → step (Body D done ops) (word ∷ rest) ≡ Ok after
     → Among word (next_words (Body D done ops))

@@ -22,7 +22,7 @@ use Rattle.cmwq_grammar.proofs.Events.{ActorOpened, QueueAdded, WorkAdded, with_
 use Rattle.cmwq_grammar.proofs.FieldLemmas.{IsNew}
 use Rattle.cmwq_grammar.proofs.GoodScenario.{Good, GoodBody, GoodBodyOf, good_actor, good_lines, on_queue_of}
 use Rattle.cmwq_grammar.proofs.InstrLemmas.{good_line}
-use Rattle.cmwq_grammar.proofs.LineLemmas.{good_op}
+use Rattle.cmwq_grammar.proofs.LineLemmas.{finish_is, good_op}
 use Rattle.cmwq_grammar.proofs.NameLists.{GoodNames, good_more}
 
 -- Lists.
@@ -206,15 +206,6 @@ declared_with : (done : List WorkContents) (work : WorkContents) (more : List Wo
 declared_with done work more ops =
     map-append bare done (work ∷ more) ∙ sym (map-append bare done (record work { body = ops } ∷ more))
     ∙ ap (map bare) (sym (append_assoc done (record work { body = ops } ∷ []) more))
-
-finish_is : (last : Op) → is_finish last ≡ true → last ≡ op.Finish
-finish_is (op.Burn ticks) e = cc
-finish_is (op.Sleep ticks) e = cc
-finish_is (op.Queue work cpu) e = cc
-finish_is op.Finish e = refl
-finish_is (op.Delay work ticks) e = cc
-finish_is (op.Mod work ticks) e = cc
-finish_is (op.Cancel work) e = cc
 
 pub sound_finish : (D : ScenarioContents) (done : List WorkContents) (ops : List Op) (last : Op) → SoundBody D done ops → is_finish last ≡ true
     → SoundBodies D (with_body D done (ops ++ last ∷ []))

@@ -28,7 +28,7 @@ use Rattle.cmwq_grammar.proofs.Events.{actor_opens, body_opens, finish_adds, lin
 use Rattle.cmwq_grammar.proofs.FieldLemmas.{IsNew, ended_again, where_again, within_fits, fits_within}
 use Rattle.cmwq_grammar.proofs.GoodScenario.{Good, GoodBody, GoodBodyOf, good_actor, good_lines, on_queue_of}
 use Rattle.cmwq_grammar.proofs.InstrLemmas.{good_line, line_again}
-use Rattle.cmwq_grammar.proofs.LineLemmas.{good_op, op_again, queue_again, work_again}
+use Rattle.cmwq_grammar.proofs.LineLemmas.{finish_is, good_op, op_again, queue_again, work_again}
 use Rattle.cmwq_grammar.proofs.NameLists.{GoodNames, good_at}
 use Rattle.cmwq_grammar.proofs.SameLines.{same_actor_line, same_op_line, same_work_line, same_work_names}
 use Rattle.cmwq_grammar.proofs.Soundness.{all_parts, all_at, names_of_bare, with_open_body}
@@ -344,13 +344,8 @@ next_body_taken D done l lines S said good says head queues x more works declare
 -- Operations.
 
 finish_is_not : (o : Op) → not (is_finish o) ≡ true → o ≡ op.Finish → ⊥
-finish_is_not (op.Burn ticks) h e = cc
-finish_is_not (op.Sleep ticks) h e = cc
-finish_is_not (op.Queue work cpu) h e = cc
 finish_is_not op.Finish h e = cc
-finish_is_not (op.Delay work ticks) h e = cc
-finish_is_not (op.Mod work ticks) h e = cc
-finish_is_not (op.Cancel work) h e = cc
+finish_is_not _ h e = cc
 
 -- operations without `finish` that a body begins with are at most all but its last
 pub fronts : (xs rest ys : List Op) → list_all (λ o. not (is_finish o)) xs ≡ true → xs ++ rest ≡ ys ++ op.Finish ∷ [] → length xs ≤ length ys
@@ -383,15 +378,6 @@ pub body_of : (S : ScenarioContents) (done : List WorkContents) (x : WorkContent
 body_of S done x more good works =
     all_at (GoodBodyOf S.cpus (length S.works)) done more x (subst (λ (ws : List WorkContents). AllByRecursion (GoodBodyOf S.cpus (length S.works)) ws) works good.bodies)
 
-finish_op : (o : Op) → is_finish o ≡ true → o ≡ op.Finish
-finish_op (op.Burn ticks) e = cc
-finish_op (op.Sleep ticks) e = cc
-finish_op (op.Queue work cpu) e = cc
-finish_op op.Finish e = refl
-finish_op (op.Delay work ticks) e = cc
-finish_op (op.Mod work ticks) e = cc
-finish_op (op.Cancel work) e = cc
-
 op_taken : (D : ScenarioContents) (done : List WorkContents) (ops : List Op) (l : WrittenLine) (lines : List WrittenLine) (S : ScenarioContents) (said : List (List ℕ))
     → SoundBody D done ops → Good S → Says l said → SameHead D S → S.queues ≡ D.queues
     → (x : WorkContents) (o : Op) (left : List Op) (more : List WorkContents) → S.works ≡ done ++ x ∷ more → x.body ≡ ops ++ o ∷ left → D.works ≡ map bare S.works
@@ -414,7 +400,7 @@ op_taken D done ops l lines S said sound good says head queues x o left more wor
     let few : D.cpus ≤ 16 = subst (λ (n : ℕ). n ≤ 16) (sym head.cpus) cpus in
     let read = op_again D o said names few passes_here (says_as l (op_line D o) said (here ∙ sym (same_op_line D S o (same_work_names D S declared))) says) in
     elim (either (is_finish o)) [
-      | inl finish ↦ (let last : o ≡ op.Finish = finish_op o finish in
+      | inl finish ↦ (let last : o ≡ op.Finish = finish_is o finish in
           let none : left ≡ [] = ends_there ops left body.ops body.others (ap (λ (p : Op). ops ++ p ∷ left) (sym last) ∙ whole) in
           let sound_work : with_body D done (ops ++ o ∷ []) ≡ done ++ record (bare x) { body = ops ++ o ∷ [] } ∷ [] =
           with_open_body D done x more (ops ++ o ∷ []) (declared ∙ ap (map bare) works) in

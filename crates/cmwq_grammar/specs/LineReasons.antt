@@ -1,20 +1,24 @@
 -- The table of reasons: what each line tells at the stage where it stands, or why it can't.
-use Rattle.std.specs.Prelude.{ℕ, ◌+◌, Bool, true, not, ◌&&◌, ◌||◌, List, [], ◌∷◌, ◌++◌, length, Result, Ok, Err, if◌then◌else◌, codes, nat_lt, ◌==◌}
+use Rattle.std.specs.Prelude.{ℕ, ◌+◌, Bool, true, not, ◌&&◌, ◌||◌, List, [], ◌∷◌, ◌++◌, length, Option, Some, None, Result, Ok, Err, if◌then◌else◌, codes, nat_lt, ◌==◌}
 use Rattle.std.specs.Str.{bytes_eq, is_utf8}
 use Rattle.cmwq_types.specs.Contents.{ScenarioContents, WorkContents}
 use Rattle.cmwq_types.specs.Faults.{fits_flags, is_finish}
+use Rattle.cmwq_types.specs.Fields.{fields}
+use Rattle.cmwq_types.specs.Operations.{op_shape_of, op_with, op_word_read}
 use Rattle.cmwq_types.specs.Scenario.{plain_flags}
 use Rattle.cmwq_types.specs.declared.check.Fault.TheVariants as fault
-use Rattle.cmwq_types.specs.declared.instr.WorkId.{WorkId}
+use Rattle.cmwq_types.specs.declared.fields.Fields.{Fields}
+use Rattle.cmwq_types.specs.declared.fields.Shape.{Shape}
+use Rattle.cmwq_types.specs.declared.fields.Shape.TheVariants as shape
 use Rattle.cmwq_types.specs.declared.limits.TheConstants.{MAX_ACTORS, MAX_CPUS, MAX_FLUSHES, MAX_LINES, MAX_OPS, MAX_QUEUES, MAX_STEPS, MAX_TICKS, MAX_WORKERS, MAX_WORKS}
+use Rattle.cmwq_types.specs.declared.operation.OpWord.{OpWord}
 use Rattle.cmwq_types.specs.declared.scenario.Flags.{Flags}
 use Rattle.cmwq_types.specs.declared.scenario.Line.{Line}
 use Rattle.cmwq_types.specs.declared.scenario.Op.{Op}
-use Rattle.cmwq_types.specs.declared.scenario.Op.TheVariants as op
 use Rattle.cmwq_types.specs.declared.scenario.QueueDecl.{QueueDecl}
 use Rattle.cmwq_grammar.specs.Cutting.{words_of}
 use Rattle.cmwq_grammar.specs.LineFields.{◌>>=◌, value_if, ended, made_last, new_name_at, declared_at, number_at, number_within, number_below, after_word}
-use Rattle.cmwq_grammar.specs.Instructions.{queue_names, work_names, actor_names, work_id, queue_id, cannot_stand, line_at}
+use Rattle.cmwq_grammar.specs.Instructions.{queue_names, work_names, actor_names, queue_id, cannot_stand, line_at}
 use Rattle.cmwq_grammar.specs.Stages.{Stage, Start, Cpus, Workers, Steps, Queues, Works, Bodies, Body, Actor, head_of, with_body, with_actor}
 use Rattle.cmwq_grammar.specs.declared.why.Why.{Why}
 use Rattle.cmwq_grammar.specs.declared.why.Why.TheVariants as why
@@ -102,30 +106,42 @@ open_body S done rest =
 
 -- an operation
 
-abbrev pub then_cpu : ScenarioContents → ℕ × List (List ℕ) → Result Op Why
-then_cpu S work = number_below S.cpus work.1 >>= made_last (op.Queue (work_id work.0))
+-- the operands of a work and a CPU
+abbrev pub then_cpu : ScenarioContents → ℕ × List (List ℕ) → Result Fields Why
+then_cpu S work = number_below S.cpus work.1 >>= made_last (λ cpu. fields cpu work.0 0)
 
--- made of the work and of ticks, from 0 on
-abbrev pub then_ticks : (WorkId → ℕ → Op) → ℕ × List (List ℕ) → Result Op Why
-then_ticks make work = number_within 0 MAX_TICKS work.1 >>= made_last (make (work_id work.0))
+-- of a work and of ticks, from 0 on
+abbrev pub then_ticks : ℕ × List (List ℕ) → Result Fields Why
+then_ticks work = number_within 0 MAX_TICKS work.1 >>= made_last (fields 0 work.0)
 
-abbrev pub cancel_of : ℕ → Op
-cancel_of work = op.Cancel (work_id work)
+-- the operands of an operation, by its shape
+abbrev pub op_operands_at : ScenarioContents → Shape → List (List ℕ) → Result Fields Why
+op_operands_at S shape.Alone rest = ended (fields 0 0 0) rest
+op_operands_at S shape.Ticks rest = number_within 1 MAX_TICKS rest >>= made_last (fields 0 0)
+op_operands_at S shape.Work rest = declared_at (work_names S) rest >>= made_last (λ work. fields 0 work 0)
+op_operands_at S shape.WorkCpu rest = declared_at (work_names S) rest >>= then_cpu S
+op_operands_at S shape.WorkTicks rest = declared_at (work_names S) rest >>= then_ticks
+-- no operation has another shape
+op_operands_at S other rest = Err why.Misplaced
 
 -- `body` and `actor` in an open body mean that it has no `finish`
 abbrev pub not_in_body : List ℕ → Why
 not_in_body word = if bytes_eq word (codes "body") || bytes_eq word (codes "actor") then why.Fault fault.BadBody else why.Misplaced
 
+abbrev pub made_op : OpWord → Fields → Result Op Why
+made_op word operands = Ok (op_with word operands)
+
+-- the operation of this word
+abbrev pub op_of_word : ScenarioContents → OpWord → List (List ℕ) → Result Op Why
+op_of_word S word rest = op_operands_at S (op_shape_of word) rest >>= made_op word
+
+-- the same, if it is an operation's
+abbrev pub op_named : ScenarioContents → List ℕ → Option OpWord → List (List ℕ) → Result Op Why
+op_named S word (Some named) rest = op_of_word S named rest
+op_named S word None rest = cannot_stand (not_in_body word) word
+
 unfoldable pub op_at_line : ScenarioContents → List ℕ → List (List ℕ) → Result Op Why
-op_at_line S word rest =
-    if bytes_eq word (codes "burn") then number_within 1 MAX_TICKS rest >>= made_last op.Burn
-    else if bytes_eq word (codes "sleep") then number_within 1 MAX_TICKS rest >>= made_last op.Sleep
-    else if bytes_eq word (codes "queue") then declared_at (work_names S) rest >>= then_cpu S
-    else if bytes_eq word (codes "delay") then declared_at (work_names S) rest >>= then_ticks op.Delay
-    else if bytes_eq word (codes "mod") then declared_at (work_names S) rest >>= then_ticks op.Mod
-    else if bytes_eq word (codes "cancel") then declared_at (work_names S) rest >>= made_last cancel_of
-    else if bytes_eq word (codes "finish") then ended op.Finish rest
-    else cannot_stand (not_in_body word) word
+op_at_line S word rest = op_named S word (op_word_read word) rest
 
 -- `finish` ends the body; any other operation must leave room for it
 unfoldable pub add_op : ScenarioContents → List WorkContents → List Op → Op → Result Stage Why
