@@ -20,7 +20,7 @@ use Rattle.cmwq_table.specs.declared.state.Pending.{Pending}
 use Rattle.cmwq_table.specs.declared.state.Running.{Running}
 use Rattle.cmwq_table.specs.State.{State, idle_at, made_at, pending_at, running_at}
 use Rattle.cmwq_table.specs.Changes.{Acts, Does, Effect, Fills, MoveFits, Turn}
-use Rattle.cmwq_table.specs.Counts.{burns, first_inactive, free_worker, has_free_rescuer, has_instance, idle_stamp, is_done, is_inactive, is_listed, is_placed, is_rescuer, last_idle, new_worker, or_else, pending_before, pending_stamp, pends, placed_born, runs_on_rescuer}
+use Rattle.cmwq_table.specs.Counts.{burns, free_worker, has_free_rescuer, idle_stamp, is_done, is_inactive, is_listed, is_placed, is_rescuer, last_idle, new_worker, or_else, pends, placed_born, runs_on_rescuer}
 use Rattle.cmwq_table.specs.Counts as counts
 use Rattle.cmwq_table.specs.Laws.{HasOneRescuer, InEveryState, IsNotReentrant, placed_in}
 use Rattle.cmwq_table.specs.Moves.{become_idle, begin_again, begin_on, begun, burned, listed_at, one_less, onward, retire, started_on, with_pending}

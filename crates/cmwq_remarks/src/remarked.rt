@@ -1,5 +1,5 @@
 //! What should be known of a run that ended well.
-ghost use Rattle.cmwq_remarks.specs.Remarks.{AreRemarks, counted, early_text, early_told, left_count, left_line, lets_move, pending_count, pending_line, pending_told, refused_line, refused_text, remarks_of, run_remarks, spent_line, spent_told, spent_words, steps_words, stops_by_itself, tells_pending, tells_refusals};
+ghost use Rattle.cmwq_remarks.specs.Remarks.{AreRemarks, counted, early_text, left_count, left_line, lets_move, pending_count, pending_line, refused_text, remarks_of, run_remarks, spent_line, spent_words, steps_words, tells_pending, tells_refusals};
 ghost use Rattle.cmwq_remarks.specs.Traps.{first_early};
 ghost use Rattle.cmwq_table.specs.State.{start};
 ghost use Rattle.cmwq_types.specs.Faults.{IsValid};
@@ -7,14 +7,13 @@ ghost use Rattle.cmwq_types.specs.Scenario.{expand};
 ghost use Rattle.cmwq_types.specs.declared.limits.TheConstants.{MAX_HISTORY, MAX_LINES};
 ghost use Rattle.std.specs.Prelude.{◌≡◌, ◌≤◌, ◌<◌, ◌++◌, [], IfOk, IfSome, OnOk, if◌then◌else◌, length, string_bytes};
 
-use crate::line_numbers::{count_worded, line_at, number_of_last};
+use crate::line_numbers::{line_at, number_of_last};
 use crate::pending::{left_count, lets_move, pending_count};
 use crate::refusals::{Refusals, issue_lines};
 use crate::traps::{early_words, first_early};
 use cmwq_asm::{AsmError, assemble};
 use cmwq_core::Core;
 use cmwq_play::judge;
-use cmwq_runs::room_behind;
 use cmwq_table::{Machine, Reads};
 use cmwq_tasks::{RunKind, Task};
 use cmwq_types::{Actor, Instr, Line, NoMemory, Scenario};

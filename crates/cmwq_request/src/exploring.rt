@@ -1,6 +1,6 @@
 //! What the words of `explore` ask for.
 
-ghost use Rattle.clap.specs.Words.{Text, all_of, first_of, found_of, rows_of};
+ghost use Rattle.clap.specs.Words.{all_of, first_of, found_of, rows_of};
 ghost use Rattle.cmwq_request.specs.Request.{IsNoExploration, IsStateLimit, IsWithin, after_forbidden, asked_explore, exploration_from, flag_of, forbidden, limit_from, never_from, pairs_from, pairs_in, request_words, state_limit, words_to_explore, works_forbidden};
 ghost use Rattle.cmwq_rings.specs.Rings.{goes_in_ring, pairs_of};
 ghost use Rattle.std.specs.Prelude.{◌≡◌, Bool, IfOk, IfSome, None, Some, codes, false, map, option_map};

@@ -1,5 +1,4 @@
 //! Worked examples of what is said of a fault's place: each the contract of a function with an empty body.
-ghost use Rattle.cmwq_fitting.specs.declared.numbers.Limits.{Limits};
 ghost use Rattle.cmwq_grammar.specs.declared.why.Why.TheVariants as why;
 ghost use Rattle.cmwq_types.specs.declared.check.Fault.TheVariants as fault;
 ghost use Rattle.cmwq_grammar.specs.declared.next.Next.TheVariants as next;
@@ -8,7 +7,7 @@ ghost use Rattle.cmwq_verdict.specs.Forms.{kernel_form};
 ghost use Rattle.cmwq_verdict.specs.Hints.{limits_text, meant_first, meant_line, stand_line, things_list, words_told};
 ghost use Rattle.cmwq_verdict.specs.Mending.{why_sentence};
 ghost use Rattle.cmwq_verdict.specs.WordPlaces.{is_begun_with};
-ghost use Rattle.std.specs.Prelude.{◌≡◌, ◌∷◌, ◌++◌, [], None, Some, codes, false, true};
+ghost use Rattle.std.specs.Prelude.{◌≡◌, ◌∷◌, [], None, Some, codes, false, true};
 
 /// What may stand at a place is told in one line: the things, with a comma between two, and the line's end; where there is none, that the line should
 /// end, or how one may begin.

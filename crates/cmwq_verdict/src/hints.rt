@@ -2,13 +2,11 @@
 ghost use Rattle.cmwq_fitting.specs.Meant.{meant_among, meant_at};
 ghost use Rattle.cmwq_grammar.specs.Cutting.{words_of};
 ghost use Rattle.cmwq_grammar.specs.Meaning.{fault_at};
-ghost use Rattle.cmwq_grammar.specs.Offers.{words_of_next};
 ghost use Rattle.cmwq_verdict.specs.Cures.{cure, cure_or};
 ghost use Rattle.cmwq_verdict.specs.Hints.{line_end, end_text, hint_lines, is_misspelt, limit_words, limits_text, things_list, meant_first, meant_if, meant_line, meant_of_place, more_text, names_offered, place_line, stand_line, things_offered, words_told};
 ghost use Rattle.cmwq_verdict.specs.OfferLines.{spelled};
 ghost use Rattle.cmwq_verdict.specs.WordPlaces.{IsNext};
-ghost use Rattle.std.specs.List.{flat_map};
-ghost use Rattle.std.specs.Prelude.{◌≡◌, ◌++◌, ◌≢◌, IfOk, OnOk, codes, drop, map, option_map, take};
+ghost use Rattle.std.specs.Prelude.{◌≡◌, ◌++◌, ◌≢◌, IfOk, OnOk, drop, map, option_map};
 
 use crate::cures::cure_of;
 use crate::finding::{Finding, column_of_place, line_before, text_before, word_of_place};
@@ -16,7 +14,7 @@ use crate::first_words::{FirstWord, words_of};
 use crate::offers::push_offered;
 use crate::writing::{push_between, push_bytes, push_sentence};
 use cmwq_fitting::{Gap, Limits, Offer, meant_among, meant_at, nearest_first};
-use cmwq_grammar::{Next, Why};
+use cmwq_grammar::{Why};
 use cmwq_scan::{next_word, worded_part};
 use cmwq_types::{Fault, NoMemory};
 use std::alloc::Global;

@@ -4,7 +4,7 @@ ghost use Rattle.cmwq_grammar.specs.Meaning.{fault_at};
 ghost use Rattle.cmwq_grammar.specs.declared.why.Why.{Why};
 ghost use Rattle.cmwq_verdict.specs.OfferLines.{IsNextAt, offer_line, spelled};
 ghost use Rattle.std.specs.List.{flat_map};
-ghost use Rattle.std.specs.Prelude.{◌≡◌, ◌≢◌, ◌++◌, ◌∷◌, ℕ, List, IfOk, OnOk, codes, map};
+ghost use Rattle.std.specs.Prelude.{◌≡◌, ◌≢◌, ◌++◌, ◌∷◌, IfOk, OnOk, codes, map};
 
 use crate::first_words::FirstWord;
 use crate::places::line_start;
