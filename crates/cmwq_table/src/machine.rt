@@ -12,7 +12,7 @@ ghost use Rattle.std.specs.Prelude.{◌≡◌, ◌&&◌, ◌<◌, IfOk, is_none}
 use crate::reads::Reads;
 use crate::view::View;
 use cmwq_types::{Event, Fault, Instr, NoMemory, Refusal, Reply, Scenario, WorkId};
-use std::alloc::Global;
+use std::alloc::{AllocError, Global};
 use std::sync::Arc;
 use thiserror::Error;
 
