@@ -8,6 +8,7 @@ use cmwq_request::request::STANDARD_INPUT;
 use std::fs::{File, metadata};
 use std::io;
 use std::io::{ErrorKind, Read};
+use std::os::unix::fs::MetadataExt;
 use std::rt::Files;
 
 /// Where files are opened to be read and made to be written.

@@ -14,7 +14,7 @@ use crate::first_words::{FirstWord, words_of};
 use crate::offers::push_offered;
 use crate::writing::{push_between, push_bytes, push_sentence};
 use cmwq_fitting::{Gap, Limits, Offer, meant_among, meant_at, nearest_first};
-use cmwq_grammar::{Why};
+use cmwq_grammar::Why;
 use cmwq_scan::{next_word, worded_part};
 use cmwq_types::{Fault, NoMemory};
 use std::alloc::Global;
