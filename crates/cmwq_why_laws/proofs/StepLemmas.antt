@@ -16,21 +16,21 @@ use Rattle.cmwq_types.specs.declared.reply.Mode.TheVariants as mode
 use Rattle.cmwq_types.specs.declared.reply.Place.{Place}
 use Rattle.cmwq_types.specs.declared.reply.Place.TheVariants as place
 use Rattle.cmwq_types.specs.declared.reply.Refusal.{Refusal}
+use Rattle.cmwq_types.specs.declared.reply.Reply.{Reply}
 use Rattle.cmwq_types.specs.declared.reply.Reply.TheVariants as reply
 use Rattle.cmwq_types.specs.declared.scenario.Op.{Op}
 use Rattle.cmwq_types.specs.declared.scenario.Op.TheVariants as op
 use Rattle.cmwq_table.specs.declared.state.Pending.{Pending}
 use Rattle.cmwq_table.specs.declared.state.Running.{Running}
 use Rattle.cmwq_table.specs.State.{State, is_disabled, pending_at, running_at}
-use Rattle.cmwq_table.specs.Counts.{first_due, first_runnable, has_free_rescuer, is_deferred, is_due, is_listed, is_rescuer, pending_due, pending_stamp, pends, runs, runs_on_rescuer}
-use Rattle.cmwq_table.specs.Laws.{HasOneRescuer, InEveryState, IsListedIn, placed_in, reply_to, state_after}
+use Rattle.cmwq_table.specs.Changes.{MoveFits, ready_in, slept_in}
+use Rattle.cmwq_table.specs.Counts.{first_due, first_runnable, has_free_rescuer, is_deferred, is_due, is_listed, is_rescuer, is_runnable, is_slept, pending_due, pending_stamp, pends, runs, runs_on_rescuer}
+use Rattle.cmwq_table.specs.Laws.{HasOneRescuer, InEveryState, IsListedIn, placed_in, reply_to}
 use Rattle.cmwq_table.specs.Moves.{advance, begin_again, carry_out, come_to_end, deferred, moved, moved_work, next_move, onward, queue_from_body, retire, woken, delay_from_body, mod_from_body, cancel_from_body}
 use Rattle.cmwq_table.specs.Table.{answer, effect, refusal, run, stepped, table}
-use Rattle.cmwq_reasons.specs.declared.reason.Instance.{Instance}
-use Rattle.cmwq_reasons.specs.declared.reason.Instance.TheVariants as instance
-use Rattle.cmwq_reasons.specs.Laws.{SaysNext, pool_if_pending, pool_if_running, pool_of}
-use Rattle.cmwq_reasons.specs.Reasons.{moved_by, mover, work_above}
-use Rattle.cmwq_reasons.proofs.NextLemmas.{moved-says}
+use Rattle.cmwq_table.proofs.Choosing.{next_move-fits}
+use Rattle.cmwq_reasons.specs.Laws.{pool_if_pending, pool_if_running}
+use Rattle.cmwq_reasons.specs.Reasons.{work_above}
 use Rattle.cmwq_why_laws.specs.Laws.{IsApart, KeepsText, KeepsTextInStep, keeps_workers}
 use Rattle.cmwq_why_laws.proofs.AgreeLemmas.{first-agrees}
 use Rattle.cmwq_why_laws.proofs.AroundLemmas.{SameRescuer}
@@ -47,11 +47,15 @@ set-at (x ∷ xs) zero (suc v) o = inl refl
 set-at (x ∷ xs) (suc i) zero o = inl refl
 set-at (x ∷ xs) (suc i) (suc v) o = elim (set-at xs i v o) [ inl same ↦ inl same | inr new ↦ inr (ap suc new.0, new.1) ]
 
+-- what tells nothing of the entry that was written tells nothing of any
+set-tells : {A B : Type 0} (f : Option A → B) (xs : List (Option A)) (i : ℕ) (o : Option A) → f o ≡ f (slice_index_or xs i None) → (v : ℕ)
+    → f (slice_index_or (slice_set xs i o) v None) ≡ f (slice_index_or xs v None)
+set-tells f xs i o same v =
+    elim (set-at xs i v o) [ inl stays ↦ ap f stays | inr new ↦ ap f new.1 ∙ same ∙ ap (λ (k : ℕ). f (slice_index_or xs k None)) new.0 ]
+
 -- what runs in one pool doesn't in another
-run-elsewhere : (pool other : ℕ) (o : Option Running) (r : Running) → o ≡ Some r → r.pool ≡ pool → (pool ≡ other → ⊥) → run_in other o ≡ None
-run-elsewhere pool other o r is in_pool apart =
-    let outside : (r.pool == other) ≡ false = ne_eqb r.pool other (λ e. apart (sym in_pool ∙ e)) in
-    ap (run_in other) is ∙ ap (λ (b : Bool). cond b (Some r) None) outside
+run-elsewhere : (pool other : ℕ) (r : Running) → r.pool ≡ pool → (pool ≡ other → ⊥) → run_in other (Some r) ≡ None
+run-elsewhere pool other r in_pool apart = ap (λ (b : Bool). cond b (Some r) None) (ne_eqb r.pool other (λ e. apart (sym in_pool ∙ e)))
 
 placed-elsewhere : (pool other : ℕ) (at : Place) → placed_in at ≡ Some pool → (pool ≡ other → ⊥) → is_in at other ≡ false
 placed-elsewhere pool other (place.Inactive at) e apart = ne_eqb at other (λ is. let same : at ≡ pool = cc in apart (sym same ∙ is))
@@ -59,9 +63,8 @@ placed-elsewhere pool other (place.Listed at) e apart = ne_eqb at other (λ is. 
 placed-elsewhere pool other (place.Deferred at) e apart = ne_eqb at other (λ is. let same : at ≡ pool = cc in apart (sym same ∙ is))
 placed-elsewhere pool other (place.Timer due cpu) e apart = refl
 
-pend-elsewhere : (pool other : ℕ) (o : Option Pending) (p : Pending) → o ≡ Some p → placed_in p.place ≡ Some pool → (pool ≡ other → ⊥) → pend_in other o ≡ None
-pend-elsewhere pool other o p is in_pool apart =
-    ap (pend_in other) is ∙ ap (λ (b : Bool). cond b (Some p) None) (placed-elsewhere pool other p.place in_pool apart)
+pend-elsewhere : (pool other : ℕ) (p : Pending) → placed_in p.place ≡ Some pool → (pool ≡ other → ⊥) → pend_in other (Some p) ≡ None
+pend-elsewhere pool other p in_pool apart = ap (λ (b : Bool). cond b (Some p) None) (placed-elsewhere pool other p.place in_pool apart)
 
 not-due : (at : Place) (pool now : ℕ) → placed_in at ≡ Some pool → is_due at now ≡ false
 not-due (place.Inactive at) pool now e = refl
@@ -100,31 +103,17 @@ abbrev gone_on : State → ℕ → Running → ℕ → ℕ → State
 gone_on s m q next spent = record s { next = next; running = slice_set s.running m (Some q); spent = spent }
 
 module _ (S : ScenarioContents) (s : State) (pool m next spent : ℕ) (r q : Running) (is : running_at s m ≡ Some r) (from : r.pool ≡ pool) (to : q.pool ≡ pool) (worker : q.worker ≡ r.worker) where
-  was : (v : ℕ) → m ≡ v → running_at s v ≡ Some r
-  was v e = sym (ap (running_at s) e) ∙ is
-
   goes-in : (other : ℕ) → (pool ≡ other → ⊥) → (v : ℕ) → run_in other (running_at (gone_on s m q next spent) v) ≡ run_in other (running_at s v)
-  goes-in other apart v =
-      elim (set-at s.running m v (Some q)) [
-        | inl same ↦ ap (run_in other) same
-        | inr new ↦ run-elsewhere pool other (running_at (gone_on s m q next spent) v) q new.1 to apart
-            ∙ sym (run-elsewhere pool other (running_at s v) r (was v new.0) from apart)
-      ]
+  goes-in other apart =
+      set-tells (run_in other) s.running m (Some q) (run-elsewhere pool other q to apart ∙ sym (ap (run_in other) is ∙ run-elsewhere pool other r from apart))
 
   rescuer-kept : (v : ℕ) → runs_on_rescuer (gone_on s m q next spent) v ≡ runs_on_rescuer s v
-  rescuer-kept v =
+  rescuer-kept =
       let on_rescuer = λ (o : Option Running). runs (λ r. is_rescuer r.worker) o in
-      elim (set-at s.running m v (Some q)) [
-        | inl same ↦ ap on_rescuer same
-        | inr new ↦ ap on_rescuer new.1 ∙ ap is_rescuer worker ∙ sym (ap on_rescuer (was v new.0))
-      ]
+      set-tells on_rescuer s.running m (Some q) (ap is_rescuer worker ∙ sym (ap on_rescuer is))
 
   none-kept : (v : ℕ) → is_none (running_at (gone_on s m q next spent) v) ≡ is_none (running_at s v)
-  none-kept v =
-      elim (set-at s.running m v (Some q)) [
-        | inl same ↦ ap (λ (o : Option Running). is_none o) same
-        | inr new ↦ ap (λ (o : Option Running). is_none o) new.1 ∙ sym (ap (λ (o : Option Running). is_none o) (was v new.0))
-      ]
+  none-kept = set-tells (λ (o : Option Running). is_none o) s.running m (Some q) (sym (ap (λ (o : Option Running). is_none o) is))
 
   free-kept : (queue : ℕ) → has_free_rescuer S (gone_on s m q next spent) queue ≡ has_free_rescuer S s queue
   free-kept queue =
@@ -146,7 +135,7 @@ module _ (S : ScenarioContents) (s : State) (pool m next spent : ℕ) (r q : Run
     mine-kept =
         elim (set-at s.running m w (Some q)) [
           | inl same ↦ same
-          | inr new ↦ absurd (apart.0.1 (ap pool_if_running (was w new.0) ∙ ap Some from))
+          | inr new ↦ absurd (apart.0.1 (ap (λ (k : ℕ). pool_if_running (running_at s k)) (sym new.0) ∙ ap pool_if_running is ∙ ap Some from))
         ]
 
     -- where w is listed, m isn't of its queue, or doesn't run on the rescuer
@@ -185,28 +174,18 @@ abbrev put_off : State → ℕ → Pending → ℕ → State
 put_off s m q spent = record s { pending = slice_set s.pending m (Some q); spent = spent }
 
 module _ (S : ScenarioContents) (s : State) (pool m spent : ℕ) (p q : Pending) (is : pending_at s m ≡ Some p) (from : placed_in p.place ≡ Some pool) (to : placed_in q.place ≡ Some pool) where
-  waited : (v : ℕ) → m ≡ v → pending_at s v ≡ Some p
-  waited v e = sym (ap (pending_at s) e) ∙ is
+  abbrev due : Option Pending → Bool
+  due o = pends (λ at. is_due at s.time) o
 
   waits-in : (other : ℕ) → (pool ≡ other → ⊥) → (v : ℕ) → pend_in other (pending_at (put_off s m q spent) v) ≡ pend_in other (pending_at s v)
-  waits-in other apart v =
-      elim (set-at s.pending m v (Some q)) [
-        | inl same ↦ ap (pend_in other) same
-        | inr new ↦ pend-elsewhere pool other (pending_at (put_off s m q spent) v) q new.1 to apart
-            ∙ sym (pend-elsewhere pool other (pending_at s v) p (waited v new.0) from apart)
-      ]
+  waits-in other apart =
+      set-tells (pend_in other) s.pending m (Some q) (pend-elsewhere pool other q to apart ∙ sym (ap (pend_in other) is ∙ pend-elsewhere pool other p from apart))
 
-  due-test : (v : ℕ) → pends (λ at. is_due at s.time) (pending_at (put_off s m q spent) v) ≡ pends (λ at. is_due at s.time) (pending_at s v)
-  due-test v =
-      let due = λ (o : Option Pending). pends (λ at. is_due at s.time) o in
-      elim (set-at s.pending m v (Some q)) [
-        | inl same ↦ ap due same
-        | inr new ↦ ap due new.1 ∙ not-due q.place pool s.time to ∙ sym (ap due (waited v new.0) ∙ not-due p.place pool s.time from)
-      ]
+  due-test : (v : ℕ) → due (pending_at (put_off s m q spent) v) ≡ due (pending_at s v)
+  due-test = set-tells due s.pending m (Some q) (not-due q.place pool s.time to ∙ sym (ap due is ∙ not-due p.place pool s.time from))
 
-  due-same : (v : ℕ) → pends (λ at. is_due at s.time) (pending_at (put_off s m q spent) v) ≡ true → pending_at (put_off s m q spent) v ≡ pending_at s v
+  due-same : (v : ℕ) → due (pending_at (put_off s m q spent) v) ≡ true → pending_at (put_off s m q spent) v ≡ pending_at s v
   due-same v passes =
-      let due = λ (o : Option Pending). pends (λ at. is_due at s.time) o in
       elim (set-at s.pending m v (Some q)) [
         | inl same ↦ same
         | inr new ↦ (let fails : due (pending_at (put_off s m q spent) v) ≡ false = ap due new.1 ∙ not-due q.place pool s.time to in absurd (cc (fails, passes)))
@@ -214,12 +193,12 @@ module _ (S : ScenarioContents) (s : State) (pool m spent : ℕ) (p q : Pending)
 
   due-kept : first_due S (put_off s m q spent) ≡ first_due S s
   due-kept =
-      let due = λ (u : State) (w : ℕ). pends (λ at. is_due at s.time) (pending_at u w) in
-      first-agrees (by_least_two (λ w. pending_due (pending_at (put_off s m q spent) w)) (λ w. pending_stamp (pending_at (put_off s m q spent) w)))
-      (by_least_two (λ w. pending_due (pending_at s w)) (λ w. pending_stamp (pending_at s w))) (due (put_off s m q spent)) (due s) (length S.works) due-test
-      (by_two (due (put_off s m q spent)) (λ w. pending_due (pending_at (put_off s m q spent) w)) (λ w. pending_due (pending_at s w))
-      (λ w. pending_stamp (pending_at (put_off s m q spent) w)) (λ w. pending_stamp (pending_at s w))
-      (λ k passes. ap pending_due (due-same k passes)) (λ k passes. ap pending_stamp (due-same k passes)))
+      let dues = λ (u : State) (w : ℕ). pending_due (pending_at u w) in
+      let stamps = λ (u : State) (w : ℕ). pending_stamp (pending_at u w) in
+      let test = λ (u : State) (w : ℕ). due (pending_at u w) in
+      let after = put_off s m q spent in
+      first-agrees (by_least_two (dues after) (stamps after)) (by_least_two (dues s) (stamps s)) (test after) (test s) (length S.works) due-test
+      (by_two (test after) (dues after) (dues s) (stamps after) (stamps s) (λ k passes. ap pending_due (due-same k passes)) (λ k passes. ap pending_stamp (due-same k passes)))
 
   others-kept : (other : ℕ) → (pool ≡ other → ⊥) → SamePool S s (put_off s m q spent) other
   others-kept other apart = record {
@@ -235,7 +214,7 @@ module _ (S : ScenarioContents) (s : State) (pool m spent : ℕ) (p q : Pending)
     place-kept =
         elim (set-at s.pending m w (Some q)) [
           | inl same ↦ same
-          | inr new ↦ absurd (apart.0.0 (ap pool_if_pending (waited w new.0) ∙ from))
+          | inr new ↦ absurd (apart.0.0 (ap (λ (k : ℕ). pool_if_pending (pending_at s k)) (sym new.0) ∙ ap pool_if_pending is ∙ from))
         ]
 
     put-around : SameAround S s (put_off s m q spent) w
@@ -265,90 +244,87 @@ does-keeps S s t pool m w law there apart (StepDoes.defers p q is from to) =
 -- What each move does.
 
 module _ (S : ScenarioContents) (s : State) (pool : ℕ) where
-  running-of : (w : ℕ) (o : Option Running) → running_at s w ≡ o → pool_if_running o ≡ Some pool → (r : Running) × (running_at s w ≡ Some r) × (r.pool ≡ pool)
-  running-of w (Some r) is at = (r, is, cc)
-  running-of w None is at = cc
+  module _ (w : ℕ) (r : Running) (is : running_at s w ≡ Some r) (at : r.pool ≡ pool) where
+    abbrev on : State
+    on = onward s w r
 
-  pending-of : (w : ℕ) (o : Option Pending) → pending_at s w ≡ o → pool_if_pending o ≡ Some pool → (p : Pending) × (pending_at s w ≡ Some p) × (placed_in p.place ≡ Some pool)
-  pending-of w (Some p) is at = (p, is, at)
-  pending-of w None is at = cc
+    goes : (t : State) → t ≡ on → StepDoes s pool w t
+    goes t same = subst (StepDoes s pool w) (sym same) (StepDoes.runs_on r (record r { pc = r.pc + 1 }) s.next is at at refl)
 
-  ends-worker : (w : ℕ) (r : Running) (o : Option Pending) → keeps_workers (come_to_end s w r o).1 ≡ false
-  ends-worker w r (Some p) = by (is_deferred p.place)
-    where
-      by : (b : Bool) → keeps_workers (cond {A = State × Event} b (begin_again s w r p, event.FinishesAndStarts) (retire s w r, event.Finishes)).1 ≡ false
-      by true = refl
-      by false = refl
-  ends-worker w r None = refl
+    queue-stays : (other : WorkId) (cpu : ℕ) (b : Bool) (o : Option Pending) → keeps_workers (queue_from_body S on other cpu b o).1 ≡ true → (queue_from_body S on other cpu b o).0 ≡ on
+    queue-stays other cpu true o class = refl
+    queue-stays other cpu false (Some p) class = refl
+    queue-stays other cpu false None class = cc
 
-  queue-does : (w : ℕ) (r : Running) (other : WorkId) (cpu : ℕ) → running_at s w ≡ Some r → r.pool ≡ pool → (b : Bool) (o : Option Pending)
-      → keeps_workers (queue_from_body S (onward s w r) other cpu b o).1 ≡ true → StepDoes s pool w (queue_from_body S (onward s w r) other cpu b o).0
-  queue-does w r other cpu is at true o class = StepDoes.runs_on r (record r { pc = r.pc + 1 }) s.next is at at refl
-  queue-does w r other cpu is at false (Some p) class = StepDoes.runs_on r (record r { pc = r.pc + 1 }) s.next is at at refl
-  queue-does w r other cpu is at false None class = cc
+    delay-stays : (other : WorkId) (cpu ticks : ℕ) (b : Bool) (o : Option Pending) → keeps_workers (delay_from_body S on other cpu ticks b o).1 ≡ true
+        → (delay_from_body S on other cpu ticks b o).0 ≡ on
+    delay-stays other cpu ticks true o class = refl
+    delay-stays other cpu ticks false (Some p) class = refl
+    delay-stays other cpu ticks false None class = cc
 
-  delay-does : (w : ℕ) (r : Running) (other : WorkId) (cpu ticks : ℕ) → running_at s w ≡ Some r → r.pool ≡ pool → (b : Bool) (o : Option Pending)
-      → keeps_workers (delay_from_body S (onward s w r) other cpu ticks b o).1 ≡ true → StepDoes s pool w (delay_from_body S (onward s w r) other cpu ticks b o).0
-  delay-does w r other cpu ticks is at true o class = StepDoes.runs_on r (record r { pc = r.pc + 1 }) s.next is at at refl
-  delay-does w r other cpu ticks is at false (Some p) class = StepDoes.runs_on r (record r { pc = r.pc + 1 }) s.next is at at refl
-  delay-does w r other cpu ticks is at false None class = cc
+    mod-stays : (other : WorkId) (cpu ticks : ℕ) (b : Bool) (o : Option Pending) → keeps_workers (mod_from_body S on other cpu ticks b o).1 ≡ true
+        → (mod_from_body S on other cpu ticks b o).0 ≡ on
+    mod-stays other cpu ticks true o class = refl
+    mod-stays other cpu ticks false o class = cc
 
-  mod-does : (w : ℕ) (r : Running) (other : WorkId) (cpu ticks : ℕ) → running_at s w ≡ Some r → r.pool ≡ pool → (b : Bool) (o : Option Pending)
-      → keeps_workers (mod_from_body S (onward s w r) other cpu ticks b o).1 ≡ true → StepDoes s pool w (mod_from_body S (onward s w r) other cpu ticks b o).0
-  mod-does w r other cpu ticks is at true o class = StepDoes.runs_on r (record r { pc = r.pc + 1 }) s.next is at at refl
-  mod-does w r other cpu ticks is at false o class = cc
+    cancel-stays : (other : WorkId) (o : Option Pending) → keeps_workers (cancel_from_body S on other o).1 ≡ true → (cancel_from_body S on other o).0 ≡ on
+    cancel-stays other (Some p) class = cc
+    cancel-stays other None class = refl
 
-  cancel-does : (w : ℕ) (r : Running) (other : WorkId) → running_at s w ≡ Some r → r.pool ≡ pool → (o : Option Pending)
-      → keeps_workers (cancel_from_body S (onward s w r) other o).1 ≡ true → StepDoes s pool w (cancel_from_body S (onward s w r) other o).0
-  cancel-does w r other is at (Some p) class = cc
-  cancel-does w r other is at None class = StepDoes.runs_on r (record r { pc = r.pc + 1 }) s.next is at at refl
+    ends-worker : (o : Option Pending) → keeps_workers (come_to_end s w r o).1 ≡ false
+    ends-worker (Some p) = by (is_deferred p.place)
+      where
+        by : (b : Bool) → keeps_workers (cond {A = State × Event} b (begin_again s w r p, event.FinishesAndStarts) (retire s w r, event.Finishes)).1 ≡ false
+        by true = refl
+        by false = refl
+    ends-worker None = refl
 
-  op-does : (w : ℕ) (r : Running) → running_at s w ≡ Some r → r.pool ≡ pool → (o : Op) → keeps_workers (carry_out S s w r o).1 ≡ true → StepDoes s pool w (carry_out S s w r o).0
-  op-does w r is at (op.Burn ticks) class = StepDoes.runs_on r (record r { pc = r.pc + 1; left = ticks }) s.next is at at refl
-  op-does w r is at (op.Sleep ticks) class = StepDoes.runs_on r (record r { pc = r.pc + 1; mode = mode.Asleep (s.time + ticks) }) s.next is at at refl
-  op-does w r is at (op.Queue other cpu) class = queue-does w r other cpu is at (is_disabled s other.0) (pending_at s other.0) class
-  op-does w r is at op.Finish class = absurd (cc (ends-worker w r (pending_at s w), class))
-  op-does w r is at (op.Delay other ticks) class = delay-does w r other (local_cpu S r.pool) ticks is at (is_disabled s other.0) (pending_at s other.0) class
-  op-does w r is at (op.Mod other ticks) class = mod-does w r other (local_cpu S r.pool) ticks is at (is_disabled s other.0) (pending_at s other.0) class
-  op-does w r is at (op.Cancel other) class = cancel-does w r other is at (pending_at s other.0) class
+    op-does : (o : Op) → keeps_workers (carry_out S s w r o).1 ≡ true → StepDoes s pool w (carry_out S s w r o).0
+    op-does (op.Burn ticks) class = StepDoes.runs_on r (record r { pc = r.pc + 1; left = ticks }) s.next is at at refl
+    op-does (op.Sleep ticks) class = StepDoes.runs_on r (record r { pc = r.pc + 1; mode = mode.Asleep (s.time + ticks) }) s.next is at at refl
+    op-does (op.Queue other cpu) class = goes _ (queue-stays other cpu (is_disabled s other.0) (pending_at s other.0) class)
+    op-does op.Finish class = absurd (cc (ends-worker (pending_at s w), class))
+    op-does (op.Delay other ticks) class = goes _ (delay-stays other (local_cpu S r.pool) ticks (is_disabled s other.0) (pending_at s other.0) class)
+    op-does (op.Mod other ticks) class = goes _ (mod-stays other (local_cpu S r.pool) ticks (is_disabled s other.0) (pending_at s other.0) class)
+    op-does (op.Cancel other) class = goes _ (cancel-stays other (pending_at s other.0) class)
 
-  in-pool : (x : Instance) → mover S s pool ≡ Some x → pool_of s x ≡ Some pool
-  in-pool x moves = (let says : SaysNext S s pool x = moved-says S s pool x moves in says.3)
+  advance-does : (w : ℕ) (o : Option Running) → running_at s w ≡ o → runs (ready_in pool) o ≡ true → keeps_workers (advance S s w o).1 ≡ true → StepDoes s pool w (advance S s w o).0
+  advance-does w (Some r) is ready class =
+      let awake = and_parts ((r.pool == pool) && is_runnable r.mode) (r.left == 0) ready in
+      op-does w r is (eqb-true r.pool pool (and_parts (r.pool == pool) (is_runnable r.mode) awake.0).0) (op_at S w r.pc) class
+  advance-does w None is ready class = cc
 
-  move-does : (move : Move) → next_move S s pool ≡ Some move → keeps_workers (moved S s pool move).1 ≡ true → StepDoes s pool (moved_work move).0 (moved S s pool move).0
-  move-does (Advance w) moves class =
-      let runs = running-of w.0 (running_at s w.0) refl (in-pool (instance.Running w) (ap moved_by moves)) in
-      subst (λ (o : Option Running). keeps_workers (advance S s w.0 o).1 ≡ true → StepDoes s pool w.0 (advance S s w.0 o).0) (sym runs.1) (op-does w.0 runs.0 runs.1 runs.2 (op_at S w.0 runs.0.pc)) class
-  move-does (Wake w) moves class =
-      let runs = running-of w.0 (running_at s w.0) refl (in-pool (instance.Running w) (ap moved_by moves)) in
-      subst (λ (o : Option Running). StepDoes s pool w.0 (woken s w.0 o)) (sym runs.1)
-      (StepDoes.runs_on runs.0 (record runs.0 { mode = mode.Runnable; stamp = s.next }) (s.next + 1) runs.1 runs.2 runs.2 refl)
-  move-does (Defer w) moves class =
-      let waits = pending-of w.0 (pending_at s w.0) refl (in-pool (instance.Pending w) (ap moved_by moves)) in
-      subst (λ (o : Option Pending). StepDoes s pool w.0 (deferred s pool w.0 o)) (sym waits.1)
-      (StepDoes.defers waits.0 (record waits.0 { place = place.Deferred pool }) waits.1 waits.2 refl)
-  move-does (Start w) moves class = cc
-  move-does (Rescue w) moves class = cc
+  wake-does : (w : ℕ) (o : Option Running) → running_at s w ≡ o → runs (slept_in pool s.time) o ≡ true → StepDoes s pool w (woken s w o)
+  wake-does w (Some r) is slept =
+      let at : r.pool ≡ pool = eqb-true r.pool pool (and_parts (r.pool == pool) (is_slept r.mode s.time) slept).0 in
+      StepDoes.runs_on r (record r { mode = mode.Runnable; stamp = s.next }) (s.next + 1) is at at refl
+  wake-does w None is slept = cc
+
+  defer-does : (w : ℕ) (o : Option Pending) → pending_at s w ≡ o → pends (λ at. is_listed at pool) o ≡ true → StepDoes s pool w (deferred s pool w o)
+  defer-does w (Some p) is listed = StepDoes.defers p (record p { place = place.Deferred pool }) is (listed-placed pool p.place listed) refl
+  defer-does w None is listed = cc
+
+  move-does : (move : Move) → MoveFits S s pool move → keeps_workers (moved S s pool move).1 ≡ true → StepDoes s pool (moved_work move).0 (moved S s pool move).0
+  move-does (Advance w) fits class = advance-does w.0 (running_at s w.0) refl fits.ready class
+  move-does (Wake w) fits class = wake-does w.0 (running_at s w.0) refl fits.slept
+  move-does (Defer w) fits class = defer-does w.0 (pending_at s w.0) refl fits.0.listed
+  move-does (Start w) fits class = cc
+  move-does (Rescue w) fits class = cc
 
 -- The step.
 
 module _ (S : ScenarioContents) (s : State) (pool : ℕ) (m : WorkId) (e : Event) where
-  answered : (o : Option Refusal) → (answer S s (instr.Step pool) o (effect S s (instr.Step pool))).1 ≡ reply.Event m e → o ≡ None
+  abbrev SaysStep : State × Reply → State × Reply → Type 0
+  SaysStep after given = (after.1 ≡ reply.Event m e) × (given.0 ≡ record after.0 { spent = after.0.spent + 1 })
+
+  answered : (o : Option Refusal) → (answer S s (instr.Step pool) o (effect S s (instr.Step pool))).1 ≡ reply.Event m e
+      → SaysStep (stepped S s pool (next_move S s pool)) (answer S s (instr.Step pool) o (effect S s (instr.Step pool)))
   answered (Some why) told = cc
-  answered None told = refl
+  answered None told = (told, refl)
 
-  accepted : reply_to S s (instr.Step pool) ≡ reply.Event m e → refusal S s (instr.Step pool) ≡ None
+  step-does : reply_to S s (instr.Step pool) ≡ reply.Event m e → SaysStep (stepped S s pool (next_move S s pool)) (table S s (instr.Step pool))
   unfolding table
-  accepted told = answered (refusal S s (instr.Step pool)) told
-
-  told-event : reply_to S s (instr.Step pool) ≡ reply.Event m e → (stepped S s pool (next_move S s pool)).1 ≡ reply.Event m e
-  unfolding table
-  told-event told = sym (ap (λ (o : Option Refusal). (answer S s (instr.Step pool) o (effect S s (instr.Step pool))).1) (accepted told)) ∙ told
-
-  after-step : reply_to S s (instr.Step pool) ≡ reply.Event m e
-      → state_after S s (instr.Step pool) ≡ record (stepped S s pool (next_move S s pool)).0 { spent = (stepped S s pool (next_move S s pool)).0.spent + 1 }
-  unfolding table
-  after-step told = ap (λ (o : Option Refusal). (answer S s (instr.Step pool) o (effect S s (instr.Step pool))).0) (accepted told)
+  step-does told = answered (refusal S s (instr.Step pool)) told
 
   move-keeps : (w : ℕ) → HasOneRescuer S s → keeps_workers e ≡ true → w < length S.works → IsApart S s pool m.0 w → (o : Option Move) → next_move S s pool ≡ o
       → (stepped S s pool o).1 ≡ reply.Event m e → KeepsText S s (record (stepped S s pool o).0 { spent = (stepped S s pool o).0.spent + 1 }) w
@@ -356,12 +332,12 @@ module _ (S : ScenarioContents) (s : State) (pool : ℕ) (m : WorkId) (e : Event
       let work : moved_work move ≡ m = cc in
       let happens : (moved S s pool move).1 ≡ e = cc in
       does-keeps S s (moved S s pool move).0 pool (moved_work move).0 w law there (subst (λ (v : WorkId). IsApart S s pool v.0 w) (sym work) apart)
-      (move-does S s pool move moves (ap keeps_workers happens ∙ class))
+      (move-does S s pool move (next_move-fits S s pool move moves) (ap keeps_workers happens ∙ class))
   move-keeps w law class there apart None moves told = cc
 
 pub keeps_text_in_step : InEveryState HasOneRescuer → InEveryState KeepsTextInStep
 unfolding KeepsTextInStep
 keeps_text_in_step law S valid instrs pool m e told class w there apart =
     let s = run S instrs in
-    subst (λ (t : State). KeepsText S s t w) (sym (after-step S s pool m e told))
-    (move-keeps S s pool m e w (law S valid instrs) class there apart (next_move S s pool) refl (told-event S s pool m e told))
+    let does = step-does S s pool m e told in
+    subst (λ (t : State). KeepsText S s t w) (sym does.1) (move-keeps S s pool m e w (law S valid instrs) class there apart (next_move S s pool) refl does.0)
