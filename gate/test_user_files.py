@@ -36,15 +36,15 @@ def words_of_scenarios():
     instructions = defined("crates/cmwq_types/specs/Mnemonics.antt", "spelling")
     flags = defined("crates/cmwq_types/specs/Listing.antt", "flag_words")
     assert len(instructions) >= 18 and len(flags) >= 5
-    lines = ["cpus", "workers", "steps", "flushes", "queue", "work", "body", "burn", "sleep", "finish", "actor", "max"]
+    lines = ["cpus", "workers", "steps", "flushes", "queue", "work", "body", "actor", "max"]
     assert all(f'codes "{word}"' in listing for word in lines), "the definitions have these words"
-    return {*instructions, *flags, *lines}
+    return {*instructions, *flags, *lines, *words_of_bodies()}
 
 
 def words_of_bodies():
     """The words that operations begin with."""
-    words = defined("crates/cmwq_types/specs/Listing.antt", "op_line")
-    assert len(words) >= 7 and set(words) <= words_of_scenarios()
+    words = defined("crates/cmwq_types/specs/Operations.antt", "op_spelling")
+    assert len(words) >= 7
     return set(words)
 
 
