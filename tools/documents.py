@@ -22,6 +22,13 @@ PROMISES = [
     ("`cmwq asm`", [("cmwq_play/src/images.rt", "to_image")]),
     ("`cmwq debug`", [("cmwq_debug_session/src/debugging.rt", "debug")]),
     ("`cmwq play`", [("cmwq_interleaving/src/playing.rt", "play")]),
+    ("`cmwq why`", [("cmwq_explain/src/explaining.rt", "why")]),
+    ("`cmwq draw`", [("cmwq_draw/src/drawing_run.rt", "draw")]),
+    ("`cmwq times`", [("cmwq_times/src/timing.rt", "times"), ("cmwq_sweep/src/sweeping.rt", "sweep")]),
+    ("`cmwq trace`", [("cmwq_trace/src/json_trace.rt", "trace_json"), ("cmwq_trace/src/line_trace.rt", "trace_lines"),
+                      ("cmwq_kernel_trace/src/text_trace.rt", "trace_text"), ("cmwq_kernel_trace/src/data_trace.rt", "trace_dat")]),
+    ("`cmwq explore`", [("cmwq_explored/src/exploring.rt", "explore")]),
+    ("`cmwq check`", [("cmwq_verdict/src/verdicts.rt", "verdict")]),
     ("the lock", [("cmwq_lock/src/lock.rt", "")]),
 ]
 BEGINS = re.compile(r"^\s*(?:(?:abbrev|unfoldable|opaque|pub)\s+)*(?:record\s+|data\s+)?([^\s:(){},]+)\s*(?:[({].*)?:(?:\s|$)")
