@@ -1,15 +1,15 @@
 -- No work waited longer than what was spent.
-use Rattle.std.proofs.Common.{◌≡◌, ℕ, ◌+◌, ◌*◌, ◌≤◌, Bool, true, false, cond, Option, Some, None, arith, refl, sym, subst, length}
+use Rattle.std.proofs.Common.{◌≡◌, ℕ, ◌+◌, ◌*◌, ◌≤◌, Bool, true, false, cond, Option, Some, None, arith, refl, sym, ap, subst, length}
 use Rattle.std.proofs.lemmas.Bool.{le-ltb}
 use Rattle.cmwq_types.specs.Contents.{ScenarioContents}
 use Rattle.cmwq_types.specs.Setting.{IsSetting}
 use Rattle.cmwq_types.specs.declared.instr.Instr.{Instr}
-use Rattle.cmwq_types.specs.declared.instr.Instr.TheVariants as instr
 use Rattle.cmwq_types.specs.declared.reply.Refusal.{Refusal}
 use Rattle.cmwq_table.proofs.CounterLemmas.{effect-spent}
 use Rattle.cmwq_table.specs.State.{State, pending_at, running_at}
-use Rattle.cmwq_table.specs.Table.{answer, effect, is_free, refusal, table, is_met, next_unless}
+use Rattle.cmwq_table.specs.Table.{answer, effect, is_free, refusal, table}
 use Rattle.cmwq_ledger.specs.Ledger.{lets_pass}
+use Rattle.cmwq_ledger.proofs.RoomLemmas.{free-same}
 use Rattle.cmwq_blame.specs.Blame.{BlameContents, are_below, blame_after, blame_ticked, no_blame, table_of, waited, work_counts}
 use Rattle.cmwq_blame.specs.Bounds.{IsBlameWithin}
 use Rattle.cmwq_blame.specs.Table.{count_at}
@@ -44,19 +44,6 @@ ticked-within S s n B within w o =
     let few = cond-most (are_below B.works w o) (waited B w o + work_counts S s w o) (n + 2) (omega (arith, here, pending, running)) in
     omega (arith, is, few)
 
-met-stays : (S : ScenarioContents) (s : State) (met : Bool) → met ≡ true → (next_unless S s met).0.time ≡ s.time
-met-stays S s true e = refl
-met-stays S s false e = cc
-
-free-stays : (S : ScenarioContents) (s : State) (i : Instr) → is_free S s i ≡ true → (effect S s i).0.time ≡ s.time
-free-stays S s (instr.Ask flush) e = refl
-free-stays S s instr.Busy e = refl
-free-stays S s (instr.State w) e = refl
-free-stays S s (instr.Until time) e = met-stays S s (is_met S s (instr.Until time)) e
-free-stays S s (instr.Wait flush) e = met-stays S s (is_met S s (instr.Wait flush)) e
-free-stays S s instr.Quiet e = met-stays S s (is_met S s instr.Quiet) e
-free-stays S s i e = cc
-
 never : (s t : State) → t.time ≡ s.time → lets_pass s t ≡ false
 never s t same = le-ltb s.time t.time (omega (arith, same))
 
@@ -66,7 +53,7 @@ module _ (S : ScenarioContents) (B : BlameContents) (s : State) (i : Instr) (set
   spent-within b is false stays =
       let spent = effect-spent S s i setting in
       up-within (512 * s.spent) (512 * ((effect S s i).0.spent + cond b 0 1)) B (omega (arith, spent)) within
-  spent-within true is true passes = absurd (cc (passes, never s (effect S s i).0 (free-stays S s i is)))
+  spent-within true is true passes = absurd (cc (passes, never s (effect S s i).0 (ap (λ (t : State). t.time) (free-same S s i is))))
   spent-within false is true passes =
       let spent = effect-spent S s i setting in
       up-within (512 * s.spent + 2) (512 * ((effect S s i).0.spent + 1)) (blame_ticked S s B) (omega (arith, spent)) (ticked-within S s (512 * s.spent) B within)

@@ -1,7 +1,7 @@
 -- Whom nobody is to blame for: where time passes, who waits and blames nobody is frozen or lacks memory.
-use Rattle.std.proofs.Common.{◌≡◌, ℕ, ◌<◌, Bool, true, false, cond, ◌&&◌, List, [], ◌∷◌, length, Option, Some, None, arith, refl, sym, ap, ◌∙◌, inl, inr}
-use Rattle.std.proofs.lemmas.Bool.{and_parts, eqb-true, lt-ltb, ltb-true}
-use Rattle.std.specs.Prelude.{is_none, is_some, nat_lt, ◌==◌}
+use Rattle.std.proofs.Common.{◌≡◌, ℕ, ◌<◌, Bool, true, false, cond, List, [], ◌∷◌, length, Option, Some, None, arith, refl, ap, ◌∙◌, inl, inr}
+use Rattle.std.proofs.lemmas.Bool.{eqb-true, ltb-true}
+use Rattle.std.specs.Prelude.{is_some, ◌==◌}
 use Rattle.cmwq_types.specs.Contents.{ScenarioContents}
 use Rattle.cmwq_types.specs.Faults.{IsValid}
 use Rattle.cmwq_types.specs.First.{by_least}
@@ -11,8 +11,6 @@ use Rattle.cmwq_types.specs.declared.moves.Move.{Move}
 use Rattle.cmwq_types.specs.declared.reply.Mode.{Mode}
 use Rattle.cmwq_types.specs.declared.reply.Mode.TheVariants.{Runnable, Asleep}
 use Rattle.cmwq_types.specs.declared.reply.Place.{Place}
-use Rattle.cmwq_types.proofs.FirstLemmas.{by_least-order, first_below-is_first}
-use Rattle.cmwq_types.proofs.SettingLemmas.{IsSetting-valid}
 use Rattle.cmwq_table.specs.Counts.{burns, first_due, pends, runs}
 use Rattle.cmwq_table.specs.Laws.{HasOneRescuer, InEveryState, IsNotReentrant, LeavesNoRoom, placed_in}
 use Rattle.cmwq_table.specs.Moves.{first_moving, next_move}
@@ -20,6 +18,7 @@ use Rattle.cmwq_table.specs.State.{State, pending_at, running_at}
 use Rattle.cmwq_table.specs.Table.{run, table}
 use Rattle.cmwq_table.specs.declared.state.Pending.{Pending}
 use Rattle.cmwq_table.specs.declared.state.Running.{Running}
+use Rattle.cmwq_table.proofs.Choosing.{moving-is_first}
 use Rattle.cmwq_reasons.specs.declared.reason.Instance.{Instance}
 use Rattle.cmwq_reasons.specs.declared.reason.Reason.{Reason}
 use Rattle.cmwq_reasons.specs.declared.reason.Reason.TheVariants as reason
@@ -31,10 +30,8 @@ use Rattle.cmwq_reasons.proofs.PendingRows.{PlaceRow, place-row}
 use Rattle.cmwq_reasons.proofs.RunningRows.{RunRow, run-row, tells_burns}
 use Rattle.cmwq_picture.specs.Picture.{mode_sign, place_sign, run_sign}
 use Rattle.cmwq_picture.specs.declared.cell.Sign.TheVariants as sign
-use Rattle.cmwq_ledger.specs.Ledger.{lets_pass}
+use Rattle.cmwq_picture.proofs.TickLemmas.{table-ticks}
 use Rattle.cmwq_blame.specs.Blame.{is_wait, pending_counts, running_counts}
-use Rattle.cmwq_blame.specs.Table.{can_pass, is_clock}
-use Rattle.cmwq_blame.proofs.PassingLemmas.{clock-lets, other-lets}
 use Rattle.cmwq_blame_laws.specs.Laws.{InEveryRun, IsStuck, WaitsForNobodyWhereStuck, is_waiting}
 use Rattle.cmwq_blame_laws.proofs.Growing.{either, grown-with}
 use Rattle.cmwq_blame_laws.proofs.Places.{pending-in_range, running-in_range}
@@ -45,25 +42,8 @@ pub record IsQuiet (S : ScenarioContents) (s : State) : Type 0 where
   pub due : first_due S s ≡ None
   pub moving : first_moving S s ≡ None
 
-none-is : {A : Type 0} (o : Option A) → is_none o ≡ true → o ≡ None
-none-is (Some x) e = cc
-none-is None e = refl
-
-can-quiet : (S : ScenarioContents) (s : State) → can_pass S s ≡ true → IsQuiet S s
-can-quiet S s e =
-    let both = and_parts (nat_lt s.spent S.steps) (is_none (first_due S s) && is_none (first_moving S s)) e in
-    let parts = and_parts (is_none (first_due S s)) (is_none (first_moving S s)) both.1 in
-    record { due = none-is (first_due S s) parts.0; moving = none-is (first_moving S s) parts.1 }
-
-pub passes-quiet : (S : ScenarioContents) (s : State) (i : Instr) → IsValid S → s.time < (table S s i).0.time → IsQuiet S s
-passes-quiet S s i valid later = by (is_clock S s i) refl
-  where
-    passes : lets_pass s (table S s i).0 ≡ true
-    passes = lt-ltb s.time (table S s i).0.time later
-
-    by : (b : Bool) → is_clock S s i ≡ b → IsQuiet S s
-    by true e = can-quiet S s (sym (clock-lets S s i (IsSetting-valid S valid) e) ∙ passes)
-    by false e = absurd (cc (passes, other-lets S s i (IsSetting-valid S valid) e))
+pub passes-quiet : (S : ScenarioContents) (s : State) (i : Instr) → s.time < (table S s i).0.time → IsQuiet S s
+passes-quiet S s i later = elim (table-ticks S s i) [ inl stays ↦ absurd (omega (arith, stays)) | inr has ↦ record { due = has.due; moving = has.moving } ]
 
 moved-some : (o : Option Move) (x : Instance) → moved_by o ≡ Some x → is_some o ≡ true
 moved-some (Some move) x e = refl
@@ -71,8 +51,7 @@ moved-some None x e = cc
 
 no-move : (S : ScenarioContents) (s : State) (pool : ℕ) → IsQuiet S s → pool < pool_count S → is_some (next_move S s pool) ≡ true → ⊥
 no-move S s pool quiet within =
-    none-first (by_least (λ pool. pool)) (λ pool. is_some (next_move S s pool)) (pool_count S) (first_moving S s)
-    (first_below-is_first (by_least (λ pool. pool)) (λ pool. is_some (next_move S s pool)) (pool_count S) (by_least-order (λ pool. pool))) quiet.moving pool within
+    none-first (by_least (λ pool. pool)) (λ pool. is_some (next_move S s pool)) (pool_count S) (first_moving S s) (moving-is_first S s) quiet.moving pool within
 
 no-mover : (S : ScenarioContents) (s : State) (pool : ℕ) (x : Instance) → IsQuiet S s → pool < pool_count S → mover S s pool ≡ Some x → ⊥
 no-mover S s pool x quiet within moves = no-move S s pool quiet within (moved-some (next_move S s pool) x moves)
@@ -161,7 +140,7 @@ unfolding WaitsForNobodyWhereStuck
 waits_for_nobody_where_stuck full rescuers apart S valid instrs i w more =
     let s = run S instrs in
     let found = grown-with S instrs i w None more in
-    let quiet = passes-quiet S s i valid found.0 in
+    let quiet = passes-quiet S s i found.0 in
     let there = ltb-true w (length S.works) found.1 in
     elim (either (pending_counts S s w (pending_at s w) None) (running_counts S s w (running_at s w) None) found.2) [
       | inl some ↦ pending-found full rescuers apart S valid instrs quiet w there (pending_at s w) refl some

@@ -231,28 +231,13 @@ unfolding AsksOnly
 asks S s (instr.Ask flush) e = (refl, yes_or_no-quiet (instr.Ask flush) (is_done S s (target_at s flush)))
 asks S s instr.Busy e = (refl, yes_or_no-quiet instr.Busy (is_busy S s))
 asks S s (instr.State w) e = (refl, record { finished = refl; started = refl; rescued = refl; cancelled = refl })
-asks S s (instr.Queue w cpu) e = absurd cc
-asks S s (instr.Delay w cpu ticks) e = absurd cc
-asks S s (instr.Mod w cpu ticks) e = absurd cc
-asks S s (instr.Cancel w) e = absurd cc
-asks S s (instr.CancelSync w) e = absurd cc
-asks S s (instr.Flush w) e = absurd cc
-asks S s (instr.FlushDelayed w) e = absurd cc
-asks S s (instr.FlushQueue q) e = absurd cc
-asks S s (instr.SetMax q max) e = absurd cc
-asks S s instr.Freeze e = absurd cc
-asks S s instr.Thaw e = absurd cc
-asks S s instr.Fire e = absurd cc
-asks S s (instr.Step pool) e = absurd cc
-asks S s instr.Tick e = absurd cc
-asks S s instr.Next e = absurd cc
-asks S s (instr.Disable w) e = absurd cc
-asks S s (instr.Enable w) e = absurd cc
-asks S s instr.Pressure e = absurd cc
-asks S s instr.Relief e = absurd cc
 asks S s (instr.Until time) e = met-only S s (instr.Until time) (is_met S s (instr.Until time)) e
 asks S s (instr.Wait flush) e = met-only S s (instr.Wait flush) (is_met S s (instr.Wait flush)) e
 asks S s instr.Quiet e = met-only S s instr.Quiet (is_met S s instr.Quiet) e
+asks S s i e = absurd cc
+
+pub free-same : (S : ScenarioContents) (s : State) (i : Instr) → is_free S s i ≡ true → (effect S s i).0 ≡ s
+free-same S s i e = (let only : ((effect S s i).0 ≡ s) × IsQuiet i (effect S s i).1 = unfold AsksOnly in asks S s i e in only.0)
 
 -- the books have room for what was spent
 abbrev HasRoomAfter : ScenarioContents → BooksContents → State → Instr → State × Reply → Type 0
