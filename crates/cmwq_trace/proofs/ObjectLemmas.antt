@@ -26,6 +26,3 @@ found-text work place run =
     (append_assoc work (codes "\"") (text_field (codes "pending") place ++ text_field (codes "running") run)
     ∙ ap (λ (text : List ℕ). work ++ (codes "\",\"pending\":\"" ++ text)) (append_assoc place (codes "\"") (text_field (codes "running") run))))
 
--- a work that is disabled, as it is written
-pub disabled-text : (work : List ℕ) → codes ",\"other\":\"" ++ (work ++ codes "\",\"disabled\":true") ≡ text_field (codes "other") work ++ true_field (codes "disabled")
-disabled-text work = sym (ap (λ (text : List ℕ). codes ",\"other\":\"" ++ text) (append_assoc work (codes "\"") (true_field (codes "disabled"))))
