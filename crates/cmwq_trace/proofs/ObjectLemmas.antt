@@ -25,4 +25,3 @@ found-text work place run =
     sym (ap (λ (text : List ℕ). codes ",\"event\":\"state\",\"work\":\"" ++ text)
     (append_assoc work (codes "\"") (text_field (codes "pending") place ++ text_field (codes "running") run)
     ∙ ap (λ (text : List ℕ). work ++ (codes "\",\"pending\":\"" ++ text)) (append_assoc place (codes "\"") (text_field (codes "running") run))))
-
