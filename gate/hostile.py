@@ -300,7 +300,7 @@ USES += [("explore - --never a", text) for text in (ORDERS, FILES["faulty.cmwq"]
 # On a way with checkpoints.
 USES += [("debug long.cmwq", "goto 700\nback 1\nback 600\ngoto 640\nbreak time 690\nrun\ngoto 3\nwhy a\ngoto 801\ndump")]
 # What follows a run where that is asked for.
-REFUSED, LEFT = rb"instructions? (?:was|were) refused(?:,| as Spent;)", rb"works? (?:is|are) pending;|work items? (?:is|are) pending or running at the end;"
+REFUSED, LEFT = rb"instructions? (?:was|were) refused(?:,| as Spent;)", rb"work items? (?:is|are) pending(?: or running at the end)?;"
 REMARK = re.compile(rb"^(?:\d+ (?:%s|%s)|line \d+: [a-z]+: without a count) .*\n" % (REFUSED, LEFT), re.M)
 Outcome = collections.namedtuple("Outcome", "status output errors files")
 
